@@ -1,0 +1,278 @@
+-- The worked cases of document 01 and some of our own, gathered in tables with one theorem: what the definitions compute is what is
+-- stated. Must-fail edits of a definition are refused here.
+-- Assumes nothing.
+use Prim.Native.Nat.{ℕ, _+_, _*_}
+use mathlib.Core.Path.{_≡_, refl}
+use mathlib.Core.Bool.{Bool, true, false}
+use mathlib.Core.List.{List, [], _∷_, _++_, map}
+use lib.ListN.{take, set, replicate}
+use Rattle.lists.specs.Lists.{sum}
+use Rattle.model.specs.Plan.{Lines, Pick, by-urgency, by-number, waits-all, waits-any, Slot, Process, Edge, When, always, on}
+use Rattle.model.specs.Log.{delay, full-ticks}
+use Rattle.model.specs.Planning.{planned}
+use Rattle.model.specs.Refusals.{Refusal, nothing, refused}
+use Rattle.model.specs.Table.{result, plan-answer, Answer, turned-down, made, table-after, frames-after}
+use Rattle.model.specs.Checking.{check}
+use Rattle.model.specs.Lookup.{row-part, lookup}
+use Rattle.model.specs.Text.{text, print, Written, wrote, not-written, write-plan}
+use Rattle.model.specs.Listing.{printed}
+use Rattle.model.specs.Firmware.{words-of, found-number}
+use Rattle.model.specs.Run.{run-before}
+use Rattle.model.specs.Demand.{starts-of}
+use Rattle.model.specs.Open.{computing}
+
+-- What is asked of a plan, a table or the first 40 ticks of a run: the answer is bytes, words or ticks, or a number (0 where nothing is
+-- refused).
+pub data Question : Type 0 where
+  prints : Lines → Question
+  lists : Lines → Question
+  worst : Lines → Question
+  delay-in : Lines → List Bool → Question
+  passes : Lines → Question
+  lent : Lines → ℕ → ℕ → Question
+  leaves : Lines → List ℕ → List ℕ → Question
+  writes : Lines → ℕ → Question
+  checks : Lines → List ℕ → ℕ → Question
+  row : List ℕ → ℕ → Question
+  finds : Lines → List ℕ → ℕ → ℕ → ℕ → ℕ → ℕ → Question
+  starts : Lines → List ℕ → List Bool → List ℕ → ℕ → Question
+
+pub data Outcome : Type 0 where
+  list : List ℕ → Outcome
+  number : ℕ → Outcome
+
+pub record Case : Type 0 where
+  pub asked : Question
+  pub stated : Outcome
+
+refusal-number : Refusal → ℕ
+refusal-number nothing = 0
+refusal-number (refused n) = n
+
+answer-number : Answer → ℕ
+answer-number (turned-down n) = n
+answer-number (made r) = 0
+
+written-number : Written → ℕ
+written-number (wrote bytes) = 0
+written-number (not-written n) = n
+
+pub outcome : Question → Outcome
+unfolding refusal-number answer-number written-number
+outcome (prints p) = list (print p)
+outcome (lists p) = list (printed p (plan-answer p 15000 6000))
+outcome (worst p) = number (result p .delay)
+outcome (delay-in p c) = number (delay p (full-ticks p) (planned p c .log))
+outcome (passes p) = number (sum (result p .passed))
+outcome (lent p w f) = number (answer-number (plan-answer p w f))
+outcome (leaves p ws fs) =
+    let a : Answer = plan-answer p (lib.ListN.length ws) (lib.ListN.length fs) in
+    list (table-after a ws ++ frames-after a fs)
+outcome (writes p n) = number (written-number (write-plan p n))
+outcome (checks p ws d) = number (refusal-number (check p ws d))
+outcome (row ws r) = list (row-part ws r)
+outcome (finds p bytes n t h v from) = number (found-number (lookup p (words-of bytes) n t h v from))
+outcome (starts p ws c times i) = list (starts-of (run-before p ws (lookup p ws) c times 40) i)
+
+-- short forms of lines
+slot : ℕ → ℕ → Slot
+slot n b = record { node = n; bytes = b }
+
+all-of : ℕ → ℕ → Process
+all-of n t = record { node = n; ticks = t; waits = waits-all }
+
+any-of : ℕ → ℕ → Process
+any-of n t = record { node = n; ticks = t; waits = waits-any }
+
+arc : ℕ → ℕ → ℕ → When → Edge
+arc i j b w = record { from = i; to = j; bytes = b; when = w }
+
+-- S, with the ticks of process 0 and the bytes of the third edge
+S-with : ℕ → ℕ → Lines
+unfolding slot all-of any-of arc
+S-with ticks third =
+    record {
+      byte = 2;
+      pick = by-urgency;
+      slots = slot 0 2 ∷ slot 1 2 ∷ [];
+      processes = all-of 0 ticks ∷ all-of 1 3 ∷ all-of 0 5 ∷ any-of 0 2 ∷ [];
+      conditions = 0 ∷ [];
+      edges = arc 0 1 1 (on true 0) ∷ arc 0 2 1 (on false 0) ∷ arc 1 3 third always ∷ arc 2 3 1 always ∷ [];
+    }
+
+S : Lines
+unfolding S-with
+S = S-with 4 2
+
+words-S : List ℕ
+words-S =
+    0 ∷ 0 ∷ 0 ∷ 0 ∷ 0
+    ∷ 1 ∷ 1 ∷ 1 ∷ 20 ∷ 0
+    ∷ 2 ∷ 1 ∷ 0 ∷ 12 ∷ 0
+    ∷ 3 ∷ 1 ∷ 0 ∷ 17 ∷ 0
+    ∷ 3 ∷ 1 ∷ 1 ∷ 32 ∷ 0
+    ∷ 4 ∷ 1 ∷ 1 ∷ 16 ∷ 0
+    ∷ 6 ∷ 1 ∷ 1 ∷ 28 ∷ 0
+    ∷ 8 ∷ 0 ∷ 0 ∷ 8 ∷ 0 ∷ []
+
+-- the words of S's table with entry e's field f (row, known, values, tick, place) changed
+edited : ℕ → ℕ → ℕ → List ℕ
+unfolding words-S
+edited e f v = set words-S (5 * e + f) v
+
+-- "Byte 1, slots 4 (node 0) and 1 (node 1), process 0 of 1 tick on node 0 sending 3, 2 and 1 bytes to three processes of 2 ticks on node 1"
+packing : Lines
+unfolding slot all-of arc
+packing =
+    record {
+      byte = 1;
+      pick = by-urgency;
+      slots = slot 0 4 ∷ slot 1 1 ∷ [];
+      processes = all-of 0 1 ∷ all-of 1 2 ∷ all-of 1 2 ∷ all-of 1 2 ∷ [];
+      conditions = [];
+      edges = arc 0 1 3 always ∷ arc 0 2 2 always ∷ arc 0 3 1 always ∷ [];
+    }
+
+-- its table, with the third message at a place
+packing-words : ℕ → List ℕ
+packing-words place =
+    0 ∷ 0 ∷ 0 ∷ 0 ∷ 0
+    ∷ 1 ∷ 0 ∷ 0 ∷ 9 ∷ 0
+    ∷ 2 ∷ 0 ∷ 0 ∷ 14 ∷ 0
+    ∷ 3 ∷ 0 ∷ 0 ∷ 11 ∷ 0
+    ∷ 4 ∷ 0 ∷ 0 ∷ 5 ∷ 0
+    ∷ 5 ∷ 0 ∷ 0 ∷ 10 ∷ 0
+    ∷ 6 ∷ 0 ∷ 0 ∷ 5 ∷ place ∷ []
+
+-- byte 1 and slots of two nodes, with no conditions: processes and edges
+plain : Pick → ℕ → ℕ → List Process → List Edge → Lines
+unfolding slot
+plain pick a b ps es = record { byte = 1; pick = pick; slots = slot 0 a ∷ slot 1 b ∷ []; processes = ps; conditions = []; edges = es }
+
+-- the same with conditions
+deciding : ℕ → ℕ → List Process → List ℕ → List Edge → Lines
+unfolding slot
+deciding a b ps cs es = record { byte = 1; pick = by-urgency; slots = slot 0 a ∷ slot 1 b ∷ []; processes = ps; conditions = cs; edges = es }
+
+-- processes on one node
+one-node : Pick → List Process → Lines
+unfolding slot
+one-node pick ps = record { byte = 1; pick = pick; slots = slot 0 1 ∷ []; processes = ps; conditions = []; edges = [] }
+
+case : Question → Outcome → Case
+case q o = record { asked = q; stated = o }
+
+-- The starred cases of document 01, in its order.
+pub starred : List Case
+unfolding case S-with S words-S edited packing packing-words
+starred =
+    case (prints S) (list (text "(plan (byte 2) (pick urgency))\n(slot (node 0) (bytes 2))\n(slot (node 1) (bytes 2))\n(process (node 0) (ticks 4) (waits all))\n(process (node 1) (ticks 3) (waits all))\n(process (node 0) (ticks 5) (waits all))\n(process (node 0) (ticks 2) (waits any))\n(condition (process 0))\n(edge (from 0) (to 1) (bytes 1) (when (true 0)))\n(edge (from 0) (to 2) (bytes 1) (when (false 0)))\n(edge (from 1) (to 3) (bytes 2) (when always))\n(edge (from 2) (to 3) (bytes 1) (when always))\n"))
+    ∷ case (lists S) (list (text "(delay 34)\n(passed 0)\n(start 0 (when) (at 0))\n(start 1 (when (true 0)) (at 20))\n(start 2 (when (false 0)) (at 12))\n(start 3 (when (false 0)) (at 17))\n(start 3 (when (true 0)) (at 32))\n(send 0 (when (true 0)) (at 16) (place 0))\n(send 2 (when (true 0)) (at 28) (place 0))\n(tell 0 (when) (at 8) (place 0))\n(frame 8 (node 0) (bytes 1))\n(frame 16 (node 0) (bytes 1))\n(frame 28 (node 1) (bytes 2))\n"))
+    ∷ case (worst (S-with 8 2)) (number 34)
+    ∷ case (worst (S-with 9 2)) (number 42)
+    ∷ case (delay-in (S-with 9 2) (false ∷ [])) (number 27)
+    ∷ case (lists (S-with 4 3)) (list (text "(refused 9)\n"))
+    ∷ case (checks S words-S 34) (number 0)
+    ∷ case (checks S (edited 2 3 11) 34) (number 15)
+    ∷ case (checks S (edited 4 3 31) 34) (number 16)
+    ∷ case (checks S (edited 6 3 27) 34) (number 17)
+    ∷ case (checks S (edited 2 1 0) 34) (number 14)
+    ∷ case (checks S words-S 33) (number 20)
+    ∷ case (lent S 39 9) (number 10)
+    ∷ case (lent S 40 9) (number 0)
+    ∷ case (lent S 40 8) (number 11)
+    ∷ case (checks S [] 34) (number 14)
+    ∷ case (lists packing) (list (text "(delay 16)\n(passed 1)\n(start 0 (when) (at 0))\n(start 1 (when) (at 9))\n(start 2 (when) (at 14))\n(start 3 (when) (at 11))\n(send 0 (when) (at 5) (place 0))\n(send 1 (when) (at 10) (place 0))\n(send 2 (when) (at 5) (place 3))\n(frame 5 (node 0) (bytes 4))\n(frame 10 (node 0) (bytes 2))\n"))
+    ∷ case (checks packing (packing-words 3) 16) (number 0)
+    ∷ case (checks packing (packing-words 2) 16) (number 19)
+    ∷ []
+
+-- "Where a planner goes astray", and the readings of docs/DECISIONS.md that change a table.
+pub planning : List Case
+unfolding case slot all-of any-of arc plain deciding one-node S-with
+planning =
+    -- one process alone; two on a node, by urgency and by number; of one urgency the lower number goes first, the other when it has ended
+    case (lists (one-node by-urgency (all-of 0 7 ∷ []))) (list (text "(delay 7)\n(passed 0)\n(start 0 (when) (at 0))\n"))
+    ∷ case (lists (one-node by-urgency (all-of 0 1 ∷ all-of 0 5 ∷ []))) (list (text "(delay 6)\n(passed 0)\n(start 0 (when) (at 5))\n(start 1 (when) (at 0))\n"))
+    ∷ case (lists (one-node by-number (all-of 0 1 ∷ all-of 0 5 ∷ []))) (list (text "(delay 6)\n(passed 0)\n(start 0 (when) (at 0))\n(start 1 (when) (at 1))\n"))
+    ∷ case (lists (one-node by-urgency (all-of 0 2 ∷ all-of 0 2 ∷ []))) (list (text "(delay 4)\n(passed 0)\n(start 0 (when) (at 0))\n(start 1 (when) (at 2))\n"))
+    -- a message ready exactly as its slot begins, at 3
+    ∷ case (worst (plain by-urgency 2 1 (all-of 0 3 ∷ all-of 1 1 ∷ []) (arc 0 1 1 always ∷ []))) (number 6)
+    -- an `any` process whose second input comes late, over the bus
+    ∷ case (worst (plain by-urgency 1 1 (all-of 0 1 ∷ all-of 1 5 ∷ any-of 0 1 ∷ []) (arc 0 2 1 always ∷ arc 1 2 1 always ∷ []))) (number 7)
+    -- columns list what was heard, and no more: condition 1 comes later than condition 0
+    ∷ case (lists (deciding 1 1 (all-of 0 1 ∷ all-of 1 4 ∷ all-of 0 1 ∷ all-of 1 2 ∷ []) (0 ∷ 1 ∷ []) (arc 0 2 1 (on true 0) ∷ arc 1 3 1 (on false 1) ∷ [])))
+    (list (text "(delay 8)\n(passed 0)\n(start 0 (when) (at 0))\n(start 1 (when) (at 0))\n(start 2 (when (true 0)) (at 3))\n(start 3 (when (false 0) (false 1)) (at 6))\n(start 3 (when (true 0) (false 1)) (at 6))\n(tell 0 (when) (at 2) (place 0))\n(tell 1 (when (false 0)) (at 5) (place 0))\n(tell 1 (when (true 0)) (at 5) (place 0))\n(frame 2 (node 0) (bytes 1))\n(frame 5 (node 1) (bytes 1))\n"))
+    -- a broadcast goes before a message, and the frame's last used byte is the message's
+    ∷ case (lists (deciding 4 1 (all-of 0 2 ∷ all-of 1 1 ∷ []) (0 ∷ []) (arc 0 1 2 always ∷ [])))
+    (list (text "(delay 10)\n(passed 0)\n(start 0 (when) (at 0))\n(start 1 (when (false 0)) (at 9))\n(start 1 (when (true 0)) (at 9))\n(send 0 (when) (at 5) (place 1))\n(tell 0 (when) (at 5) (place 0))\n(frame 5 (node 0) (bytes 3))\n"))
+    -- a message is sent though its receiver does not run; ties go to the lower process and the lower edge
+    ∷ case (lists (deciding 1 1 (all-of 0 1 ∷ all-of 0 1 ∷ all-of 1 1 ∷ []) (0 ∷ []) (arc 0 2 1 (on true 0) ∷ arc 1 2 1 always ∷ [])))
+    (list (text "(delay 8)\n(passed 3)\n(start 0 (when) (at 0))\n(start 1 (when) (at 1))\n(start 2 (when (true 0)) (at 7))\n(send 0 (when (true 0)) (at 4) (place 0))\n(send 1 (when (false 0)) (at 4) (place 0))\n(send 1 (when (true 0)) (at 6) (place 0))\n(tell 0 (when) (at 2) (place 0))\n(frame 2 (node 0) (bytes 1))\n(frame 4 (node 0) (bytes 1))\n(frame 6 (node 0) (bytes 1))\n"))
+    -- pass-overs count slots, not items: three messages of 2 bytes and a slot of 2; and they count after the last process has ended
+    ∷ case (passes (plain by-urgency 2 1 (all-of 0 1 ∷ all-of 1 1 ∷ all-of 1 1 ∷ all-of 1 1 ∷ []) (arc 0 1 2 always ∷ arc 0 2 2 always ∷ arc 0 3 2 always ∷ []))) (number 2)
+    ∷ case (passes (deciding 1 4 (all-of 0 1 ∷ all-of 0 1 ∷ []) (0 ∷ 1 ∷ []) [])) (number 4)
+    ∷ case (worst (deciding 1 4 (all-of 0 1 ∷ all-of 0 1 ∷ []) (0 ∷ 1 ∷ []) [])) (number 2)
+    ∷ []
+
+-- Refusals, tables, buffers, queries, lookups and runs beyond the starred ones.
+pub answers : List Case
+unfolding case slot all-of any-of arc plain deciding one-node S-with S words-S edited
+answers =
+    -- 2 to 8, each on its own
+    case (lent (one-node by-urgency []) 0 0) (number 2)
+    ∷ case (lent (one-node by-urgency (all-of 0 0 ∷ [])) 0 0) (number 3)
+    ∷ case (lent (one-node by-urgency (all-of 1 1 ∷ [])) 0 0) (number 4)
+    ∷ case (lent (deciding 1 1 (all-of 0 1 ∷ []) (0 ∷ 0 ∷ []) []) 0 0) (number 5)
+    ∷ case (lent (plain by-urgency 1 1 (all-of 0 1 ∷ all-of 0 1 ∷ []) (arc 1 0 1 always ∷ [])) 0 0) (number 6)
+    ∷ case (lent (plain by-urgency 1 1 (all-of 0 1 ∷ all-of 0 1 ∷ []) (arc 0 1 1 always ∷ arc 0 1 2 always ∷ [])) 0 0) (number 7)
+    ∷ case (lent (plain by-urgency 1 1 (all-of 0 1 ∷ all-of 0 1 ∷ []) (arc 0 1 1 (on true 0) ∷ [])) 0 0) (number 8)
+    -- a local edge may be longer than the slot
+    ∷ case (lent (plain by-urgency 1 1 (all-of 0 1 ∷ all-of 0 1 ∷ []) (arc 0 1 64 always ∷ [])) 10 0) (number 0)
+    -- 12, 13 (a place, a known bit without condition), 16 before 17 (a broadcast at tick 0), 18
+    ∷ case (checks S (take 39 words-S) 34) (number 12)
+    ∷ case (checks S (edited 7 4 64) 34) (number 13)
+    ∷ case (checks S (edited 0 1 2) 34) (number 13)
+    ∷ case (checks S (edited 7 3 0) 34) (number 16)
+    ∷ case (checks (one-node by-urgency (all-of 0 1 ∷ all-of 0 5 ∷ [])) (0 ∷ 0 ∷ 0 ∷ 0 ∷ 0 ∷ 1 ∷ 0 ∷ 0 ∷ 0 ∷ 0 ∷ []) 5) (number 18)
+    -- a stated delay of ten digits can be right
+    ∷ case (checks (one-node by-urgency (all-of 0 7 ∷ [])) (0 ∷ 0 ∷ 0 ∷ 999999999 ∷ 0 ∷ []) 1000000006) (number 0)
+    -- buffers: a refusal leaves them, an accepted call leaves the words beyond its output
+    ∷ case (leaves (one-node by-urgency (all-of 0 7 ∷ [])) (9 ∷ 9 ∷ 9 ∷ 9 ∷ []) (8 ∷ [])) (list (9 ∷ 9 ∷ 9 ∷ 9 ∷ 8 ∷ []))
+    ∷ case (leaves (one-node by-urgency (all-of 0 7 ∷ [])) (9 ∷ 9 ∷ 9 ∷ 9 ∷ 9 ∷ 9 ∷ []) (8 ∷ [])) (list (0 ∷ 0 ∷ 0 ∷ 0 ∷ 0 ∷ 9 ∷ 8 ∷ []))
+    ∷ case (writes S 464) (number 0)
+    ∷ case (writes S 463) (number 10)
+    -- the row query: a row of two entries, none, a scattered row, stray words
+    ∷ case (row words-S 3) (list (3 ∷ 1 ∷ 0 ∷ 17 ∷ 0 ∷ 3 ∷ 1 ∷ 1 ∷ 32 ∷ 0 ∷ []))
+    ∷ case (row words-S 5) (list [])
+    ∷ case (row (3 ∷ 0 ∷ 0 ∷ 0 ∷ 0 ∷ 0 ∷ 0 ∷ 0 ∷ 0 ∷ 0 ∷ 3 ∷ 0 ∷ 0 ∷ 0 ∷ 1 ∷ []) 3) (list (3 ∷ 0 ∷ 0 ∷ 0 ∷ 0 ∷ []))
+    ∷ case (row (0 ∷ 0 ∷ 0 ∷ 0 ∷ 0 ∷ 3 ∷ 0 ∷ 0 ∷ 0 ∷ []) 3) (list [])
+    -- the lookup over bytes: an entry of 20 bytes and 19 stray ones; its bits beyond the known are ignored; a tick, a node, an entry past it
+    ∷ case (finds (one-node by-urgency (all-of 0 7 ∷ [])) (replicate 8 0 ++ 7 ∷ replicate 30 0) 0 0 0 0 0) (number 0)
+    ∷ case (finds (one-node by-urgency (all-of 0 7 ∷ [])) (replicate 8 0 ++ 7 ∷ replicate 30 0) 0 0 0 0 1) (number 18446744073709551615)
+    ∷ case (finds (one-node by-urgency (all-of 0 7 ∷ [])) (replicate 20 0) 1 0 0 0 0) (number 18446744073709551615)
+    ∷ case (finds (one-node by-urgency (all-of 0 7 ∷ [])) (replicate 12 0 ++ 0 ∷ 1 ∷ 0 ∷ 0 ∷ replicate 4 0) 0 256 0 0 0) (number 0)
+    ∷ case (finds (one-node by-urgency (all-of 0 0 ∷ [])) (replicate 20 0) 0 0 0 0 0) (number 18446744073709551612)
+    -- runs of S: with full ticks, with none, of a process that is not due, of the other value; a broadcast before its decider's end counts
+    -- for nothing, so that its value is never heard
+    ∷ case (starts S words-S (true ∷ []) (4 ∷ 3 ∷ 5 ∷ 2 ∷ []) 3) (list (32 ∷ []))
+    ∷ case (starts S words-S (true ∷ []) (0 ∷ 0 ∷ 0 ∷ 0 ∷ []) 1) (list (20 ∷ []))
+    ∷ case (starts S words-S (true ∷ []) (4 ∷ 3 ∷ 5 ∷ 2 ∷ []) 2) (list [])
+    ∷ case (starts S words-S (false ∷ []) (4 ∷ 3 ∷ 5 ∷ 2 ∷ []) 2) (list (12 ∷ []))
+    ∷ case (starts S (edited 7 3 0) (false ∷ []) (4 ∷ 3 ∷ 5 ∷ 2 ∷ []) 2) (list [])
+    ∷ []
+
+abbrev pub Hold : List Case → Type 0
+Hold cases = map (λ x. outcome (x .asked)) cases ≡ map (λ x. x .stated) cases
+
+pub starred-hold : Hold starred
+unfolding computing outcome starred
+starred-hold = refl
+
+pub planning-hold : Hold planning
+unfolding computing outcome planning
+planning-hold = refl
+
+pub answers-hold : Hold answers
+unfolding computing outcome answers
+answers-hold = refl

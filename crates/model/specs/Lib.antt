@@ -1,0 +1,17 @@
+-- The definitions of document 01. A reader who follows the document reads the files in this order.
+pub mod Plan
+pub mod Activity
+pub mod Bus
+pub mod Log
+pub mod Planning
+pub mod Refusals
+pub mod Table
+pub mod Checking
+pub mod Lookup
+pub mod Text
+pub mod Listing
+pub mod Firmware
+pub mod Run
+pub mod Demand
+pub mod Open
+pub mod Cases

@@ -1,0 +1,56 @@
+-- Document 01, "Table and frame list": what the planning program prints.
+-- Assumes nothing.
+use Prim.Native.Nat.{ℕ, _/_, _%_, _^_}
+use mathlib.Core.Bool.{Bool}
+use mathlib.Core.List.{List, [], _++_}
+use lib.Dec.{eqb}
+use lib.ListN.{length}
+use Rattle.lists.specs.Lists.{if_then_else_, each, sum}
+use Rattle.model.specs.Plan.{Lines, conditions}
+use Rattle.model.specs.Bus.{is-process, is-edge, row-edge, row-condition}
+use Rattle.model.specs.Table.{Entry, Frame, Answer, turned-down, made}
+use Rattle.model.specs.Text.{text, decimal, field, Written, unless-refused, fitting}
+
+-- "conditions in a `when` are the plan's too and ascend strictly"
+unfoldable pub bit : ℕ → ℕ → Bool
+bit n k = eqb (n / 2 ^ k % 2) 1
+
+unfoldable pub value-text : Entry → ℕ → List ℕ
+value-text e k = if bit (e .known) k then text " " ++ (if bit (e .values) k then field "true" k else field "false" k) else []
+
+unfoldable pub column-text : Lines → Entry → List ℕ
+column-text p e = text " (when" ++ each (value-text e) (conditions p) ++ text ") " ++ field "at" (e .tick)
+
+unfoldable pub place-text : Entry → List ℕ
+place-text e = text " " ++ field "place" (e .place)
+
+-- "start, send and tell carry the number of a process, edge or condition that the plan has". (A row past the last is printed as the
+-- condition that would have it; the planner writes none.)
+unfoldable pub entry-line : Lines → Entry → List ℕ
+entry-line p e =
+    if is-process p (e .row)
+    then text "(start " ++ decimal (e .row) ++ column-text p e ++ text ")\n"
+    else if is-edge p (e .row)
+    then text "(send " ++ decimal (row-edge p (e .row)) ++ column-text p e ++ place-text e ++ text ")\n"
+    else text "(tell " ++ decimal (row-condition p (e .row)) ++ column-text p e ++ place-text e ++ text ")\n"
+
+unfoldable pub frame-line : Frame → List ℕ
+frame-line f = text "(frame " ++ decimal (f .tick) ++ text " " ++ field "node" (f .node) ++ text " " ++ field "bytes" (f .used) ++ text ")\n"
+
+unfoldable pub refused-line : ℕ → List ℕ
+refused-line n = field "refused" n ++ text "\n"
+
+unfoldable pub passed-lines : List ℕ → List ℕ
+passed-lines passed = field "passed" (sum passed) ++ text "\n"
+
+unfoldable pub listing : Lines → ℕ → List ℕ → List Entry → List Frame → List ℕ
+listing p delay passed es fs = field "delay" delay ++ text "\n" ++ passed-lines passed ++ each (entry-line p) es ++ each frame-line fs
+
+-- "A refusal prints `(refused 9)`, with its number, alone."
+unfoldable pub printed : Lines → Answer → List ℕ
+printed p (turned-down n) = refused-line n
+printed p (made r) = listing p (r .delay) (r .passed) (r .entries) (r .frames)
+
+-- the listing put into lent bytes
+unfoldable pub write-listing : Lines → Answer → ℕ → Written
+write-listing p a lent = unless-refused (fitting lent (printed p a)) (printed p a)
