@@ -1,0 +1,5 @@
+pub mod Good
+pub mod Active
+pub mod Slots
+pub mod Rows
+pub mod Rules
