@@ -3,14 +3,14 @@
 use mathlib.Core.Path.{_≡_, refl, sym, ap, _∙_}
 use mathlib.Core.Bool.{Bool, true, false, _&&_}
 use mathlib.Core.List.{List, [], _∷_, _++_, List·Memᴰ as In}
-use Prim.Native.Nat.{ℕ, zero, suc, _+_, _≤_, _<_}
+use Prim.Native.Nat.{ℕ, zero, suc, _≤_, _<_}
 use native.Mathlib.Nat.{not-suc-le-zero}
 use native.Mathlib.Omega.{arith}
 use lib.Dec.{eqb}
 use lib.ListN.{length, getD, length-append, List·getD-append}
 use borrow.Author.Tests.{eqb-true}
 use Rattle.lists.specs.Lists.{if_then_else_, any, all}
-use Rattle.lists.proofs.Tests.{strong, below-suc}
+use Rattle.lists.proofs.Tests.{both, strong, below-suc}
 use Rattle.lists.proofs.Members.{keep-in, below-in, any-same, all-same}
 use Rattle.lists.proofs.Keep.{getD-last}
 use mathlib.Core.Logic.{_⊎_, inl, inr}
@@ -74,6 +74,10 @@ module _ (p : Lines) (h : List Heard) where
     pub may-run-law : (i : ℕ) → i < length (p .processes) → getD (may-run p h) i false ≡ runs-next p h (may-run p h) i
     unfolding may-run
     may-run-law i l = first-law (length (p .processes)) i l
+
+pub carries-parts : (p : Lines) (c : List Bool) (e : ℕ) → carries p c e ≡ true → (active p c (edge p e .from) ≡ true) × (meets (all-heard c) (edge p e .when) ≡ true)
+unfolding carries
+carries-parts p c e h = both (active p c (edge p e .from)) (meets (all-heard c) (edge p e .when)) h
 
 pub heard-all : (c : List Bool) (k : ℕ) → k < length c → getD (all-heard c) k unheard ≡ heard (getD c k false)
 heard-all [] k l = absurd (not-suc-le-zero l)

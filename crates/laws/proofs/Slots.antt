@@ -9,9 +9,9 @@ use native.Mathlib.Nat.{mul-pos, mod-lt, div-add-mod', mul-add-mod-self-right, m
 use native.Mathlib.Omega.{arith}
 use lib.Dec.{eqb, leb}
 use lib.ListN.{length}
-use borrow.Author.Tests.{eq-eqb, ne-eqb, eqb-true, eqb-false, leb-true, leb-false}
+use borrow.Author.Tests.{eq-eqb, eqb-true, leb-true, leb-false}
 use Rattle.lists.specs.Lists.{if_then_else_, any, sum, repeated}
-use Rattle.lists.proofs.Tests.{two, clash, neither, same-test}
+use Rattle.lists.proofs.Tests.{two, clash, neither}
 use Rattle.lists.proofs.Members.{in-any, in-map, keep-in, in-keep}
 use Rattle.lists.proofs.Sums.{sum-in}
 use Rattle.model.specs.Plan.{Lines, Slot, process}

@@ -10,10 +10,10 @@ use native.Mathlib.Omega.{arith}
 use lib.Dec.{eqb}
 use lib.ListN.{length}
 use borrow.Author.Tests.{eqb-true, eq-eqb, not-true, ne-eqb}
-use Rattle.lists.specs.Lists.{any, keep, if_then_else_, repeated, upfrom}
+use Rattle.lists.specs.Lists.{any, keep, if_then_else_, repeated, upfrom, each}
 use Rattle.lists.proofs.Tests.{neither, clash, two}
 use Rattle.lists.proofs.Keep.{keep-all}
-use Rattle.lists.proofs.Members.{none-in, keep-in, any-false, any-in, in-any, upfrom-in, map-in}
+use Rattle.lists.proofs.Members.{none-in, keep-in, any-false, any-in, in-any, upfrom-in, map-in, in-map, each-in}
 
 -- lists of different numbers
 pub not-there : (x : ℕ) (xs : List ℕ) → (In x xs → ⊥) → any (eqb x) xs ≡ false
@@ -109,3 +109,13 @@ different-map f inj [] d = different-none
 different-map f inj (x ∷ xs) d =
     let n = different-parts x xs d in
     different-cons (f x) (map f xs) (λ m. let r = map-in f xs m in n .0 (subst (λ (z : ℕ). In z xs) (sym (inj x (r .0) (r .2))) (r .1))) (different-map f inj xs (n .1))
+
+-- Numbers that `tag` tells apart by the element they come from.
+pub different-each : {A : Type 0} (f : A → List ℕ) (key : A → ℕ) (tag : ℕ → ℕ) (xs : List A) →
+    ((x : A) → In x xs → repeated (f x) ≡ false) → ((x : A) → In x xs → (r : ℕ) → In r (f x) → tag r ≡ key x) → repeated (map key xs) ≡ false → repeated (each f xs) ≡ false
+different-each f key tag [] h e d = different-none
+different-each f key tag (x ∷ xs) h e d =
+    let n = different-parts (key x) (map key xs) d in
+    different-append (f x) (each f xs) (h x (here refl)) (different-each f key tag xs (λ y m. h y (there m)) (λ y m. e y (there m)) (n .1)) (λ r u v.
+    let m = each-in f xs v in
+    n .0 (subst (λ (k : ℕ). In k (map key xs)) (sym (e (m .0) (there (m .1)) r (m .2)) ∙ e x (here refl) r u) (in-map key (m .1))))

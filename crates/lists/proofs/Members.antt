@@ -2,7 +2,7 @@
 -- Assumes nothing.
 use mathlib.Core.Path.{_≡_, refl, sym, ap, _∙_, subst}
 use mathlib.Core.Logic.{_⊎_, inl, inr}
-use mathlib.Core.Bool.{Bool, _||_, _&&_, true, false, false≢true}
+use mathlib.Core.Bool.{Bool, _||_, _&&_, true, false, false≢true, and-assoc}
 use mathlib.Core.List.{List, [], _∷_, List·Memᴰ as In, List·Memᴰ·head as here, List·Memᴰ·tail as there, List·Memᴰ·not-nil as in-none, map, Memᴰ·append-left as in-left, Memᴰ·append-right as in-right, List·Memᴰ·append-cases as in-either, _++_}
 use Prim.Native.Nat.{_≤_, ℕ, zero, suc, _<_, _+_}
 use native.Mathlib.Nat.{not-suc-le-zero}
@@ -114,6 +114,10 @@ pub all-same : {A : Type 0} (f g : A → Bool) (xs : List A) → ((x : A) → In
 all-same f g [] e = refl
 all-same f g (x ∷ xs) e = λ i. e x (here refl) i && all-same f g xs (λ y m. e y (there m)) i
 
+pub map-same : {A B : Type 0} (f g : A → B) (xs : List A) → ((x : A) → In x xs → f x ≡ g x) → map f xs ≡ map g xs
+map-same f g [] e = refl
+map-same f g (x ∷ xs) e = λ i. e x (here refl) i ∷ map-same f g xs (λ y m. e y (there m)) i
+
 pub any-members : {A : Type 0} (f : A → Bool) (xs ys : List A) → ((x : A) → In x xs → In x ys) → ((x : A) → In x ys → In x xs) → any f xs ≡ any f ys
 any-members f xs ys u v =
     same-test _ _ (λ e. let m = any-in f xs e in in-any f (u (m .0) (m .1)) (m .2)) (λ e. let m = any-in f ys e in in-any f (v (m .0) (m .1)) (m .2))
@@ -208,3 +212,18 @@ one-same (z ∷ []) u (here p) (here q) = p ∙ sym q
 one-same (z ∷ []) u (here p) (there n) = absurd (in-none n)
 one-same (z ∷ []) u (there m) n = absurd (in-none m)
 one-same (z ∷ w ∷ ws) u m n = absurd u
+
+-- `all` over one list and then another
+all-append : {A : Type 0} (f : A → Bool) (xs ys : List A) → all f (xs ++ ys) ≡ (all f xs && all f ys)
+all-append f [] ys = refl
+all-append f (x ∷ xs) ys = ap (λ (b : Bool). f x && b) (all-append f xs ys) ∙ sym (and-assoc (f x) (all f xs) (all f ys))
+
+pub all-parts : {A : Type 0} (f : A → Bool) (xs ys : List A) → all f (xs ++ ys) ≡ true → (all f xs ≡ true) × (all f ys ≡ true)
+all-parts f xs ys h = both (all f xs) (all f ys) (sym (all-append f xs ys) ∙ h)
+
+pub all-joined : {A : Type 0} (f : A → Bool) (xs ys : List A) → all f xs ≡ true → all f ys ≡ true → all f (xs ++ ys) ≡ true
+all-joined f xs ys a b = all-append f xs ys ∙ join (all f xs) (all f ys) a b
+
+pub all-each : {A B : Type 0} (f : B → Bool) (g : A → List B) (xs : List A) → ((x : A) → In x xs → all f (g x) ≡ true) → all f (each g xs) ≡ true
+all-each f g [] h = refl
+all-each f g (x ∷ xs) h = all-joined f (g x) (each g xs) (h x (here refl)) (all-each f g xs (λ y m. h y (there m)))

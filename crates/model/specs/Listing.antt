@@ -4,7 +4,6 @@ use Prim.Native.Nat.{ℕ, _/_, _%_, _^_}
 use mathlib.Core.Bool.{Bool}
 use mathlib.Core.List.{List, [], _++_}
 use lib.Dec.{eqb}
-use lib.ListN.{length}
 use Rattle.lists.specs.Lists.{if_then_else_, each, sum}
 use Rattle.model.specs.Plan.{Lines, conditions}
 use Rattle.model.specs.Bus.{is-process, is-edge, row-edge, row-condition}

@@ -5,7 +5,6 @@ use Prim.Native.String.{String}
 use Prim.Native.String
 use Prim.Native.Char.{code}
 use mathlib.Core.Path.{_≡_}
-use mathlib.Core.Logic.{_⊎_}
 use mathlib.Core.Bool.{Bool, true, false}
 use mathlib.Core.List.{List, [], _∷_, _++_}
 use lib.Dec.{ltb}
@@ -60,13 +59,13 @@ edge-line e =
     text "(edge " ++ field "from" (e .from) ++ text " " ++ field "to" (e .to) ++ text " " ++ field "bytes" (e .bytes)
     ++ text " (when " ++ when-text (e .when) ++ text "))\n"
 
-unfoldable pub plan-line : Lines → List ℕ
-plan-line p = text "(plan " ++ field "byte" (p .byte) ++ text " " ++ pick-text (p .pick) ++ text ")\n"
+unfoldable pub plan-line : ℕ → Pick → List ℕ
+plan-line byte pick = text "(plan " ++ field "byte" byte ++ text " " ++ pick-text pick ++ text ")\n"
 
 -- "Line kinds stand in the order of this example".
 unfoldable pub print : Lines → List ℕ
 print p =
-    plan-line p ++ each slot-line (p .slots) ++ each process-line (p .processes) ++ each condition-line (p .conditions) ++ each edge-line (p .edges)
+    plan-line (p .byte) (p .pick) ++ each slot-line (p .slots) ++ each process-line (p .processes) ++ each condition-line (p .conditions) ++ each edge-line (p .edges)
 
 -- "numbers have one to nine decimal digits": all the numbers of some lines
 unfoldable pub short : ℕ → Bool
@@ -76,13 +75,25 @@ unfoldable pub when-numbers : When → List ℕ
 when-numbers always = []
 when-numbers (on v k) = k ∷ []
 
+abbrev pub slot-numbers : Slot → List ℕ
+slot-numbers s = s .node ∷ s .bytes ∷ []
+
+abbrev pub process-numbers : Process → List ℕ
+process-numbers q = q .node ∷ q .ticks ∷ []
+
+abbrev pub condition-numbers : ℕ → List ℕ
+condition-numbers i = i ∷ []
+
+abbrev pub edge-numbers : Edge → List ℕ
+edge-numbers e = e .from ∷ e .to ∷ e .bytes ∷ when-numbers (e .when)
+
 unfoldable pub numbers : Lines → List ℕ
 numbers p =
     (p .byte ∷ [])
-    ++ each (λ s. s .node ∷ s .bytes ∷ []) (p .slots)
-    ++ each (λ q. q .node ∷ q .ticks ∷ []) (p .processes)
-    ++ p .conditions
-    ++ each (λ e. e .from ∷ e .to ∷ e .bytes ∷ when-numbers (e .when)) (p .edges)
+    ++ each slot-numbers (p .slots)
+    ++ each process-numbers (p .processes)
+    ++ each condition-numbers (p .conditions)
+    ++ each edge-numbers (p .edges)
 
 -- "A plan text means what its printed form says": a text means the lines that print as it.
 pub record Means (bytes : List ℕ) (p : Lines) : Type 0 where
