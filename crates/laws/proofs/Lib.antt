@@ -1,3 +1,38 @@
+-- Theorems about the definitions of document 01, for every plan in which refusals 2 to 9 find nothing. A reader's guide, bottom up:
+--
+-- What is used everywhere
+--   Good            the facts that refusals 2 to 9 leave of a plan, as a record
+--   Active          who runs: a process is active just where all, or for `any` at least one, of its edges carry
+--   Slots           `first-beginning` is the first beginning of a node's slot at or after a tick; at most one slot begins at a tick
+--   Rows            what is due of a row, who sends it, how long it lasts; what a log says of a row
+--   Rules           the rules that a log keeps (`Kept`), and a table whose met entries keep them in every combination (`Lawful`)
+--
+-- Planning is safe
+--   Steps           what one tick of planning places
+--   NonAnticipation combinations that agree on what is known at a tick have the same plan up to and including it
+--   QuietTicks      a tick at which nothing ends or arrives and no slot with a pending item begins changes nothing
+--   OnlyDue, Once   only due rows are placed, each at most once
+--   History         what stands in the log was placed at its tick, and what was over or known then stays so
+--   Safety          `planning-keeps`: the log before every tick keeps the rules
+--
+-- Planning comes to an end
+--   Potential, Frozen, Progress   what is left to do falls, and where nothing is left everything due is placed: `everything-over`
+--   Bound           `delay-within` document 01's bound, `planning-ends` there, and the bound is a tick that a table can hold
+--
+-- Sound tables
+--   Columns         columns, bits and what is heard
+--   Combinations    all combinations, and tests over them
+--   Lawful          of a lawful table each due row is met exactly once, and no other
+--   Checks, Sound   `sound-iff`: refusals 12 to 20 find nothing just where the table is lawful
+--
+-- Runs
+--   Calls           the calls of a unit at a tick give exactly the entries that fit
+--   RunTick, RunHeard, RunLog   `run-matches`: a run of a sound table is, row by row, the entries that the combination meets
+--   Demand          `demand-3`: demand 3 for every sound table, in one theorem
+--
+-- The planner's own table
+--   Entries         its entries are in order, and equal row, known and values make equal entries (`equal-places`)
+--   OwnTable        `own-table-sound` with the delay given, and `planned-runs`: demand 3 for it
 pub mod Good
 pub mod Active
 pub mod Slots
