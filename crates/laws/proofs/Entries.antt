@@ -1,9 +1,9 @@
 -- The planner's entries ascend, and those that a combination meets are those that are made from its own log, one for each row of it.
 -- Assumes nothing.
 use mathlib.Core.Path.{_≡_, refl, sym, ap, _∙_, subst, subst₂}
-use mathlib.Core.Logic.{_⊎_, inl, inr}
+use mathlib.Core.Logic.{inr}
 use mathlib.Core.Bool.{Bool, true, false}
-use mathlib.Core.List.{List, [], List·Memᴰ as In, List·Memᴰ·not-nil as in-none}
+use mathlib.Core.List.{List, [], List·Memᴰ as In}
 use Prim.Native.Nat.{ℕ, suc, _<_}
 use native.Mathlib.Omega.{arith}
 use lib.Dec.{eqb}
@@ -12,7 +12,7 @@ use borrow.Author.Tests.{eqb-true, eq-eqb}
 use Rattle.lists.specs.Lists.{if_then_else_, each, below}
 use Rattle.lists.specs.Ordered.{order, same}
 use Rattle.lists.proofs.Members.{map-in, in-map, each-in, in-each, keep-in, in-keep, in-below}
-use Rattle.lists.proofs.Order.{Ascending, order-lt, order-same, ascending-each, put-all-ascends, put-all-in, in-put-all}
+use Rattle.lists.proofs.Order.{Joining, Ascending, order-lt, order-same, ascending-each, put-all-ascends, put-all-in, in-put-all}
 use Rattle.model.specs.Plan.{Lines}
 use Rattle.model.specs.Activity.{Heard, heard, unheard, all-heard, combinations}
 use Rattle.model.specs.Bus.{rows, condition-row}
@@ -40,8 +40,8 @@ pub record Made (p : Lines) (c : List Bool) (e : Entry) : Type 0 where
   pub member : In item (final p c)
   pub is-its : e ≡ entry-of p c (final p c) item
 
-key-same : (e f : Entry) → order (key e) (key f) ≡ same → (one-of-two e f ≡ f) × (e ≡ f)
-unfolding key one-of-two
+key-same : (e f : Entry) → order (key e) (key f) ≡ same → e ≡ f
+unfolding key
 key-same e f o =
     let q = order-same (key e) (key f) o in
     let a : e .row ≡ f .row = cc in
@@ -49,7 +49,19 @@ key-same e f o =
     let c : e .known ≡ f .known = cc in
     let d : e .values ≡ f .values = cc in
     let g : e .place ≡ f .place = cc in
-    (refl, λ i. record { row = a i; known = c i; values = d i; tick = b i; place = g i })
+    λ i. record { row = a i; known = c i; values = d i; tick = b i; place = g i }
+
+-- Entries of equal keys are equal, so that either of two may stand for both.
+either-of-two : Joining key one-of-two (λ e. Unit {0}) _≡_
+unfolding one-of-two
+either-of-two =
+    record {
+      one-of = λ e f u v o. inr refl;
+      for-new = λ e f u v o. key-same e f o;
+      for-old = λ e f u v o. refl;
+      itself = λ e. refl;
+      trans = λ e f g p q. p ∙ q;
+    }
 
 module _ (p : Lines) where
   abbrev E : List Entry
@@ -61,17 +73,13 @@ module _ (p : Lines) where
 
   row-made : (r : ℕ) (e : Entry) → In e (row-entries p (plans p) r) → (e .row ≡ r) × ((c : List Bool) × In c (combinations p) × Made p c e)
   unfolding row-entries made-entries plans planned entry-of
-  row-made r e m = at (put-all-in key one-of-two key-same e (each (made-entries p r) (plans p)) [] m)
-    where
-      at : In e (each (made-entries p r) (plans p)) ⊎ In e [] → (e .row ≡ r) × ((c : List Bool) × In c (combinations p) × Made p c e)
-      at (inr n) = absurd (in-none n)
-      at (inl n) =
-          let s = each-in (made-entries p r) (plans p) n in
-          let c = map-in plan-of (combinations p) (s .1) in
-          let k : In e (made-entries p r (plan-of (c .0))) = subst (λ (z : Planned). In e (made-entries p r z)) (c .2) (s .2) in
-          let x = map-in (entry-of p (c .0) (final p (c .0))) (of-row (final p (c .0)) r) k in
-          let y = keep-in (λ x. eqb (x .row) r) (final p (c .0)) (x .1) in
-          (ap (λ (z : Entry). z .row) (x .2) ∙ eqb-true _ _ (y .1), (c .0, c .1, record { item = x .0; member = y .0; is-its = x .2 }))
+  row-made r e m =
+      let s = each-in (made-entries p r) (plans p) (put-all-in key either-of-two e (each (made-entries p r) (plans p)) (λ f n. tt) m) in
+      let c = map-in plan-of (combinations p) (s .1) in
+      let k : In e (made-entries p r (plan-of (c .0))) = subst (λ (z : Planned). In e (made-entries p r z)) (c .2) (s .2) in
+      let x = map-in (entry-of p (c .0) (final p (c .0))) (of-row (final p (c .0)) r) k in
+      let y = keep-in (λ x. eqb (x .row) r) (final p (c .0)) (x .1) in
+      (ap (λ (z : Entry). z .row) (x .2) ∙ eqb-true _ _ (y .1), (c .0, c .1, record { item = x .0; member = y .0; is-its = x .2 }))
 
   pub entries-ascend : Ascending key (result p .entries)
   unfolding result row-entries key one-of-two
@@ -90,10 +98,13 @@ module _ (p : Lines) where
     in-entries : (c : List Bool) → length c ≡ length (p .conditions) → (x : Placed) → In x (final p c) → In (entry-of p c (final p c) x) E
     unfolding result row-entries made-entries plans planned
     in-entries c cl x m =
+        let e : Entry = entry-of p c (final p c) x in
+        let made : In e (each (made-entries p (x .row)) (plans p)) =
+        in-each (made-entries p (x .row)) {x = plan-of c} (in-map plan-of (in-combinations p c cl))
+        (in-map (entry-of p c (final p c)) (in-keep (λ y. eqb (y .row) (x .row)) m (eq-eqb (x .row) (x .row) refl))) in
+        let r = in-put-all key either-of-two e (each (made-entries p (x .row)) (plans p)) (λ f n. tt) made in
         in-each (row-entries p (plans p)) (in-below (rows p) (x .row) (only-due p c g cl (bound p) x m .0))
-        (in-put-all key one-of-two key-same (entry-of p c (final p c) x) (each (made-entries p (x .row)) (plans p)) []
-        (inl (in-each (made-entries p (x .row)) {x = plan-of c} (in-map plan-of (in-combinations p c cl))
-        (in-map (entry-of p c (final p c)) (in-keep (λ y. eqb (y .row) (x .row)) m (eq-eqb (x .row) (x .row) refl))))))
+        (subst (λ (z : Entry). In z (row-entries p (plans p) (x .row))) (sym (r .2)) (r .1))
 
     -- A combination that meets the column of another's entry had the same log up to the entry's tick, and makes the same entry.
     module _ (c d : List Bool) (cl : length c ≡ length (p .conditions)) (dl : length d ≡ length (p .conditions)) (x : Placed) (m : In x (final p d))

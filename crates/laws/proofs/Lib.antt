@@ -9,6 +9,7 @@
 --
 -- Planning is safe
 --   Steps           what one tick of planning places
+--   Choice          what it chooses: `urgency-law`, `starts-highest` for a free unit, `queue-ordered` for the messages of a slot
 --   NonAnticipation combinations that agree on what is known at a tick have the same plan up to and including it
 --   QuietTicks      a tick at which nothing ends or arrives and no slot with a pending item begins changes nothing
 --   OnlyDue, Once   only due rows are placed, each at most once
@@ -33,12 +34,14 @@
 -- The planner's own table
 --   Entries         its entries are in order, and equal row, known and values make equal entries (`equal-places`)
 --   OwnTable        `own-table-sound` with the delay given, and `planned-runs`: demand 3 for it
+--   Frames          every frame is used by an item of its node (`frame-used`), and every item has its frame (`item-framed`)
 pub mod Good
 pub mod Active
 pub mod Slots
 pub mod Rows
 pub mod Rules
 pub mod Steps
+pub mod Choice
 pub mod NonAnticipation
 pub mod QuietTicks
 pub mod OnlyDue
@@ -61,3 +64,4 @@ pub mod RunLog
 pub mod Demand
 pub mod Entries
 pub mod OwnTable
+pub mod Frames

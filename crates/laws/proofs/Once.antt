@@ -6,20 +6,19 @@ use mathlib.Core.List.{List, [], _∷_, map, map-id, List·Memᴰ as In, List·M
 use Prim.Native.Nat.{ℕ, zero, suc, _+_}
 use native.Mathlib.Omega.{arith}
 use lib.Dec.{leb}
-use lib.ListN.{length, getD}
+use lib.ListN.{length}
 use Rattle.lists.specs.Lists.{if_then_else_, keep, first, repeated}
 use Rattle.lists.proofs.Tests.{clash}
 use Rattle.lists.proofs.Members.{Upto-one, first-one, one-same, map-in, in-map, keep-in}
 use Rattle.lists.proofs.Keep.{map-append, keep-map, map-each}
 use Rattle.lists.proofs.Different.{keep-different, different-cons, different-parts, different-none, different-append, different-upfrom, different-map, different-each}
-use Rattle.lists.proofs.Sorting.{different-sort}
-use Rattle.model.specs.Plan.{Lines, Slot, edge, edges, conditions, unit, units}
+use Rattle.model.specs.Plan.{Lines, Slot, conditions, unit, units}
 use Rattle.model.specs.Bus.{begins, beginning, edge-row, condition-row, row-node, row-bytes}
 use Rattle.model.specs.Log.{Placed, Log}
-use Rattle.model.specs.Planning.{View, weights, turns, queue, free, candidate, start-at, unit-starts, starts, waits-to-tell, waits-to-send, pending, pack, takes, sends, before}
+use Rattle.model.specs.Planning.{View, turns, queue, free, candidate, start-at, unit-starts, starts, waits-to-tell, waits-to-send, pending, pack, takes, sends, before}
 use Rattle.laws.proofs.Good.{Good}
 use Rattle.laws.proofs.Rows.{in-placed}
-use Rattle.laws.proofs.Steps.{Started, queue-in, pending-node, pack-in, unit-starts-in, starts-in, takes-in, sends-in, pending-item, log-at, view-at, new-at, new-facts, log-next}
+use Rattle.laws.proofs.Steps.{Started, queue-in, queue-once, pending-node, pack-in, unit-starts-in, starts-in, takes-in, sends-in, pending-item, log-at, view-at, new-at, new-facts, log-next}
 
 abbrev pub rows-of : Log → List ℕ
 rows-of log = map (λ x. x .row) log
@@ -66,11 +65,11 @@ module _ (p : Lines) (v : View) (t : ℕ) where
       upto-one (x ∷ y ∷ xs) o = absurd o
 
   pending-differ : (n : ℕ) → repeated (pending p v n) ≡ false
-  unfolding pending queue
+  unfolding pending
   pending-differ n =
       different-append (map (condition-row p) tell) (map (edge-row p) send)
       (different-map (condition-row p) (λ a b q. omega arith) tell (keep-different (waits-to-tell p v n) (conditions p) (different-upfrom 0 (length (p .conditions)))))
-      (different-map (edge-row p) (λ a b q. omega arith) send (keep-different (waits-to-send p v n) (queue p) (different-sort (λ e. getD (weights p) (edge p e .to) 0) (edges p) (different-upfrom 0 (length (p .edges))))))
+      (different-map (edge-row p) (λ a b q. omega arith) send (keep-different (waits-to-send p v n) (queue p) (queue-once p)))
       (λ r m m′.
       let a = map-in (condition-row p) tell m in
       let b = map-in (edge-row p) send m′ in

@@ -9,10 +9,11 @@ use native.Mathlib.Omega.{arith}
 use lib.Dec.{eqb, leb}
 use lib.ListN.{length, getD}
 use borrow.Author.Tests.{eqb-true, eq-eqb, le-leb, leb-true, not-true, not-false}
-use Rattle.lists.specs.Lists.{keep, first}
+use Rattle.lists.specs.Lists.{keep, first, repeated}
 use Rattle.lists.proofs.Tests.{both, join, is-not, is-false, not-both, clash}
 use Rattle.lists.proofs.Members.{none-in, any-false, keep-in, in-keep, map-in, in-map, each-in, in-each, in-below, below-in, if-in, first-in, first-some}
-use Rattle.lists.proofs.Sorting.{in-sort, sort-in}
+use Rattle.lists.proofs.Different.{different-upfrom}
+use Rattle.lists.proofs.Sorting.{in-sort, sort-in, different-sort}
 use Rattle.model.specs.Plan.{Lines, Slot, process, processes, edge, edges, decider, conditions, local, unit, units}
 use Rattle.model.specs.Activity.{meets, may-run}
 use Rattle.model.specs.Bus.{beginning, edge-row, condition-row, row-node, sender, row-bytes}
@@ -65,7 +66,7 @@ module _ (p : Lines) where
   unfolding turns
   turns-in m = below-in (length (p .processes)) (sort-in (λ i. getD (weights p) i 0) (processes p) m)
 
-  in-turns : (i : ℕ) → i < length (p .processes) → In i (turns p)
+  pub in-turns : (i : ℕ) → i < length (p .processes) → In i (turns p)
   unfolding turns
   in-turns i l = in-sort (λ i. getD (weights p) i 0) (in-below (length (p .processes)) i l)
 
@@ -73,9 +74,13 @@ module _ (p : Lines) where
   unfolding queue
   queue-in m = below-in (length (p .edges)) (sort-in (λ e. getD (weights p) (edge p e .to) 0) (edges p) m)
 
-  in-queue : (e : ℕ) → e < length (p .edges) → In e (queue p)
+  pub in-queue : (e : ℕ) → e < length (p .edges) → In e (queue p)
   unfolding queue
   in-queue e l = in-sort (λ e. getD (weights p) (edge p e .to) 0) (in-below (length (p .edges)) e l)
+
+  pub queue-once : repeated (queue p) ≡ false
+  unfolding queue
+  queue-once = different-sort (λ e. getD (weights p) (edge p e .to) 0) (edges p) (different-upfrom 0 (length (p .edges)))
 
 -- a unit is free if and only if its processes that are placed are over
 module _ (p : Lines) (v : View) (u : ℕ) where
