@@ -3,10 +3,10 @@
 use Prim.Native.Nat.{ℕ, _/_, _%_, _^_}
 use mathlib.Core.Bool.{Bool}
 use mathlib.Core.List.{List, [], _++_}
-use lib.Dec.{eqb}
+use lib.Dec.{eqb, ltb}
 use Rattle.lists.specs.Lists.{if_then_else_, each, sum}
 use Rattle.model.specs.Plan.{Lines, conditions}
-use Rattle.model.specs.Bus.{is-process, is-edge, row-edge, row-condition}
+use Rattle.model.specs.Bus.{rows, is-process, is-edge, row-edge, row-condition}
 use Rattle.model.specs.Table.{Entry, Frame, Answer, turned-down, made}
 use Rattle.model.specs.Text.{text, decimal, field, Written, unless-refused, fitting}
 
@@ -23,15 +23,16 @@ column-text p e = text " (when" ++ each (value-text e) (conditions p) ++ text ")
 unfoldable pub place-text : Entry → List ℕ
 place-text e = text " " ++ field "place" (e .place)
 
--- "start, send and tell carry the number of a process, edge or condition that the plan has". (A row past the last is printed as the
--- condition that would have it; the planner writes none.)
+-- "start, send and tell carry the number of a process, edge or condition that the plan has": a row that the plan lacks has no line.
 unfoldable pub entry-line : Lines → Entry → List ℕ
 entry-line p e =
     if is-process p (e .row)
     then text "(start " ++ decimal (e .row) ++ column-text p e ++ text ")\n"
     else if is-edge p (e .row)
     then text "(send " ++ decimal (row-edge p (e .row)) ++ column-text p e ++ place-text e ++ text ")\n"
-    else text "(tell " ++ decimal (row-condition p (e .row)) ++ column-text p e ++ place-text e ++ text ")\n"
+    else if ltb (e .row) (rows p)
+    then text "(tell " ++ decimal (row-condition p (e .row)) ++ column-text p e ++ place-text e ++ text ")\n"
+    else []
 
 unfoldable pub frame-line : Frame → List ℕ
 frame-line f = text "(frame " ++ decimal (f .tick) ++ text " " ++ field "node" (f .node) ++ text " " ++ field "bytes" (f .used) ++ text ")\n"

@@ -1,0 +1,12 @@
+//! Random plans, broken plans, damaged texts, and tables, damaged or sound, for tests.
+//!
+//! Everything follows from a seed, so that a test that fails can be run again.
+
+pub mod broken;
+pub mod plans;
+pub mod random;
+pub mod tables;
+pub mod texts;
+
+pub use plans::{plan, Kind, KINDS};
+pub use random::Random;

@@ -1,0 +1,16 @@
+//! Looks for the archive and, if it is there, links it and sets `have_archive`.
+
+use std::path::PathBuf;
+
+fn main() {
+    println!("cargo:rustc-check-cfg=cfg(have_archive)");
+    let root = PathBuf::from(std::env::var("CARGO_MANIFEST_DIR").unwrap());
+    let folder = root.join("../../target/staticlib");
+    let archive = folder.join("libcapi.a");
+    println!("cargo:rerun-if-changed={}", archive.display());
+    if archive.exists() {
+        println!("cargo:rustc-cfg=have_archive");
+        println!("cargo:rustc-link-search=native={}", folder.display());
+        println!("cargo:rustc-link-lib=static=capi");
+    }
+}

@@ -1,0 +1,26 @@
+//! Document 01 in plain Rust, sentence by sentence.
+//!
+//! Every function stands under the sentence of document 01 that it says again. Nothing here is
+//! made to be fast: the crate is the measure that other implementations are compared with.
+
+pub mod bus;
+pub mod check;
+pub mod lines;
+pub mod listing;
+pub mod lookup;
+pub mod planner;
+pub mod refuse;
+pub mod run;
+pub mod table;
+pub mod text;
+pub mod who_runs;
+
+pub use check::check;
+pub use lines::{Condition, Edge, Lines, Pick, Process, Slot, Waits, When};
+pub use listing::{listing, program, refused};
+pub use lookup::{c_lookup, lookup, row_query, Answer};
+pub use planner::{plan, Planned};
+pub use refuse::refuse_plan;
+pub use run::run;
+pub use table::Entry;
+pub use text::{print, read, write};

@@ -1,0 +1,182 @@
+//! What the tests share: document 01's example, short ways to write plans, and random inputs.
+
+use generate::{plan, Kind, Random};
+use reference::lookup::Question;
+use reference::{Condition, Edge, Lines, Pick, Planned, Process, Slot, Waits, When};
+
+/// The plan text S of document 01.
+pub const S: &str = "\
+(plan (byte 2) (pick urgency))
+(slot (node 0) (bytes 2))
+(slot (node 1) (bytes 2))
+(process (node 0) (ticks 4) (waits all))
+(process (node 1) (ticks 3) (waits all))
+(process (node 0) (ticks 5) (waits all))
+(process (node 0) (ticks 2) (waits any))
+(condition (process 0))
+(edge (from 0) (to 1) (bytes 1) (when (true 0)))
+(edge (from 0) (to 2) (bytes 1) (when (false 0)))
+(edge (from 1) (to 3) (bytes 2) (when always))
+(edge (from 2) (to 3) (bytes 1) (when always))
+";
+
+/// The listing of S that document 01 prints.
+pub const S_LISTING: &str = "\
+(delay 34)
+(passed 0)
+(start 0 (when) (at 0))
+(start 1 (when (true 0)) (at 20))
+(start 2 (when (false 0)) (at 12))
+(start 3 (when (false 0)) (at 17))
+(start 3 (when (true 0)) (at 32))
+(send 0 (when (true 0)) (at 16) (place 0))
+(send 2 (when (true 0)) (at 28) (place 0))
+(tell 0 (when) (at 8) (place 0))
+(frame 8 (node 0) (bytes 1))
+(frame 16 (node 0) (bytes 1))
+(frame 28 (node 1) (bytes 2))
+";
+
+/// The lines of S.
+pub fn s() -> Lines {
+    reference::read(S.as_bytes()).unwrap()
+}
+
+/// A plan with pick urgency and these slots, given as node and bytes.
+pub fn bus(byte: u64, slots: &[(u64, u64)]) -> Lines {
+    let slots = slots.iter().map(|&(node, bytes)| Slot { node, bytes });
+    Lines {
+        byte,
+        pick: Pick::Urgency,
+        slots: slots.collect(),
+        processes: Vec::new(),
+        conditions: Vec::new(),
+        edges: Vec::new(),
+    }
+}
+
+/// Short ways to add lines to a plan.
+pub trait With {
+    /// Adds an `all` process.
+    fn all(self, node: u64, ticks: u64) -> Self;
+    /// Adds an `any` process.
+    fn any(self, node: u64, ticks: u64) -> Self;
+    /// Adds a condition.
+    fn decides(self, process: u64) -> Self;
+    /// Adds an edge.
+    fn edge(self, from: u64, to: u64, bytes: u64, when: When) -> Self;
+    /// Takes pick number.
+    fn by_number(self) -> Self;
+}
+
+impl With for Lines {
+    fn all(self, node: u64, ticks: u64) -> Self {
+        with_process(self, node, ticks, Waits::All)
+    }
+
+    fn any(self, node: u64, ticks: u64) -> Self {
+        with_process(self, node, ticks, Waits::Any)
+    }
+
+    fn decides(mut self, process: u64) -> Self {
+        self.conditions.push(Condition { process });
+        self
+    }
+
+    fn edge(mut self, from: u64, to: u64, bytes: u64, when: When) -> Self {
+        self.edges.push(Edge {
+            from,
+            to,
+            bytes,
+            when,
+        });
+        self
+    }
+
+    fn by_number(mut self) -> Self {
+        self.pick = Pick::Number;
+        self
+    }
+}
+
+fn with_process(mut lines: Lines, node: u64, ticks: u64, waits: Waits) -> Lines {
+    lines.processes.push(Process { node, ticks, waits });
+    lines
+}
+
+/// Plans with as many words as it takes.
+pub fn planned(lines: &Lines) -> Planned {
+    reference::plan(lines, usize::MAX, usize::MAX).unwrap()
+}
+
+/// The listing of a plan with as many words as it takes.
+pub fn listed(lines: &Lines) -> String {
+    let p = planned(lines);
+    let listing = reference::listing(lines, p.delay, p.passed, &p.words, &p.frames);
+    String::from_utf8(listing).unwrap()
+}
+
+/// The lines of the listing that begin so.
+pub fn listed_from(lines: &Lines, begin: &str) -> Vec<String> {
+    let listing = listed(lines);
+    let found = listing.lines().filter(|line| line.starts_with(begin));
+    found.map(str::to_string).collect()
+}
+
+/// A question to the lookup.
+pub fn question(node: u64, tick: u64, heard: u64, values: u64, begin: u64) -> Question {
+    Question {
+        node,
+        tick,
+        heard,
+        values,
+        begin,
+    }
+}
+
+/// How many random plans of each kind a test looks at.
+pub const MANY: [(Kind, u64); 7] = [
+    (Kind::Tiny, 1_500),
+    (Kind::DenseBus, 250),
+    (Kind::ManyConditions, 200),
+    (Kind::NestedAny, 300),
+    (Kind::Largest, 4),
+    (Kind::LongestRound, 100),
+    (Kind::ShortestRound, 250),
+];
+
+/// The same, for tests that take long for each plan.
+pub const FEW: [(Kind, u64); 6] = [
+    (Kind::Tiny, 400),
+    (Kind::DenseBus, 40),
+    (Kind::ManyConditions, 30),
+    (Kind::NestedAny, 60),
+    (Kind::LongestRound, 20),
+    (Kind::ShortestRound, 60),
+];
+
+/// Calls a test with random plans and the generator for whatever else is random in it. A plan that
+/// fails can be found again by the text that is printed.
+pub fn for_plans(seed: u64, counts: &[(Kind, u64)], mut test: impl FnMut(&Lines, &mut Random)) {
+    for &(kind, count) in counts {
+        for number in 0..count {
+            let mut random = Random::new(seed << 32 ^ (kind as u64) << 24 ^ number);
+            let lines = plan(kind, &mut random);
+            let shown = ShownOnPanic(&lines);
+            test(&lines, &mut random);
+            drop(shown);
+        }
+    }
+}
+
+/// Prints the plan that a test was busy with, if the test fails.
+struct ShownOnPanic<'a>(&'a Lines);
+
+impl Drop for ShownOnPanic<'_> {
+    fn drop(&mut self) {
+        if std::thread::panicking() {
+            let text = reference::print(self.0);
+            println!("with this plan:\n{}", String::from_utf8_lossy(&text));
+        }
+    }
+}
