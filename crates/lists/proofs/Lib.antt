@@ -1,5 +1,7 @@
 -- Laws of the definitions in specs/: Tests (and, or, not), Members (what a test over a list says of its members), Keep (equations),
--- Different (no number twice), Sums, Sorting, Order (comparison and insertion in order), Front (a buffer after a call).
+-- Different (no number twice), Sums, Sorting, Order (comparison and insertion in order), Front (a buffer after a call),
+-- Fill (an array filled one by one), Loops (a loop over the numbers below n), Marks (numbers found twice), Places (a list by its
+-- places).
 pub mod Tests
 pub mod Members
 pub mod Keep
@@ -8,3 +10,7 @@ pub mod Sums
 pub mod Sorting
 pub mod Order
 pub mod Front
+pub mod Fill
+pub mod Loops
+pub mod Marks
+pub mod Places

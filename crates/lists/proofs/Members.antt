@@ -11,7 +11,7 @@ use lib.Dec.{eqb}
 use lib.ListN.{length, getD}
 use borrow.Author.Tests.{eqb-true, eq-eqb}
 use Rattle.lists.specs.Lists.{any, all, if_then_else_, keep, null, each, upfrom, below, first}
-use Rattle.lists.proofs.Tests.{same-test, or-right, clash, both, join, either, or-left, is-false, two, or-map}
+use Rattle.lists.proofs.Tests.{same-test, or-right, or-assoc, or-cross, clash, both, join, either, or-left, is-false, two, or-map}
 
 module _ {A : Type 0} where
   pub any-in : (f : A → Bool) (xs : List A) → any f xs ≡ true → (x : A) × In x xs × (f x ≡ true)
@@ -159,6 +159,18 @@ no-members (x ∷ xs) h = absurd (h x (here refl))
 pub any-false : {A : Type 0} (f : A → Bool) (xs : List A) → ((x : A) → In x xs → f x ≡ false) → any f xs ≡ false
 any-false f [] h = refl
 any-false f (x ∷ xs) h = rw (h x (here refl)) (any-false f xs (λ y m. h y (there m)))
+
+pub any-append : {A : Type 0} (f : A → Bool) (xs ys : List A) → any f (xs ++ ys) ≡ (any f xs || any f ys)
+any-append f [] ys = refl
+any-append f (x ∷ xs) ys = rw (any-append f xs ys) (sym (or-assoc (f x) (any f xs) (any f ys)))
+
+pub any-of-map : {A B : Type 0} (f : B → Bool) (g : A → B) (xs : List A) → any f (map g xs) ≡ any (λ x. f (g x)) xs
+any-of-map f g [] = refl
+any-of-map f g (x ∷ xs) = ap (λ (b : Bool). f (g x) || b) (any-of-map f g xs)
+
+pub any-or : {A : Type 0} (f g : A → Bool) (xs : List A) → any (λ x. f x || g x) xs ≡ (any f xs || any g xs)
+any-or f g [] = refl
+any-or f g (x ∷ xs) = rw (any-or f g xs) (or-cross (f x) (g x) (any f xs) (any g xs))
 
 pub any-right : {A : Type 0} (f : A → Bool) (xs ys : List A) → any f ys ≡ true → any f (xs ++ ys) ≡ true
 any-right f [] ys h = h

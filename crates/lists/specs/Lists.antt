@@ -4,6 +4,7 @@ use Prim.Native.Nat.{ℕ, zero, suc, _+_, max}
 use mathlib.Core.Bool.{Bool, true, false, _&&_, _||_}
 use mathlib.Core.List.{List, [], _∷_, _++_}
 use lib.Dec.{eqb}
+use lib.ListN.{set, replicate}
 
 -- Both branches are computed: a definition with two recursive calls says `elim` instead.
 infixr 15 if_then_else_
@@ -61,3 +62,12 @@ greatest (x ∷ xs) = max x (greatest xs)
 unfoldable pub repeated : List ℕ → Bool
 repeated [] = false
 repeated (x ∷ xs) = any (eqb x) xs || repeated xs
+
+-- a function's value at j stands at a number below j too
+unfoldable pub earlier : (ℕ → ℕ) → ℕ → Bool
+earlier f j = any (λ i. eqb (f i) (f j)) (below j)
+
+-- an array of `size` zeros of which the first n are filled one by one
+unfoldable pub fill : ℕ → (ℕ → ℕ) → ℕ → List ℕ
+fill size f zero = replicate size 0
+fill size f (suc n) = set (fill size f n) n (f n)

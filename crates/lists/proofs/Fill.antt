@@ -1,0 +1,44 @@
+-- An array filled one by one: what one store adds, its length, and what stands where.
+-- Assumes nothing.
+use mathlib.Core.Path.{_≡_, refl, _∙_}
+use mathlib.Core.Logic.{_⊎_, inl, inr}
+use mathlib.Core.List.{List}
+use Prim.Native.Nat.{ℕ, zero, suc, _+_, _≤_, _<_}
+use native.Mathlib.Nat.{not-suc-le-zero}
+use native.Mathlib.Numerals.{add-one}
+use native.Mathlib.Omega.{arith}
+use lib.ListN.{length, getD, set, replicate, length-set, length-replicate}
+use lib.Seq.{getD-set-same, getD-set-other}
+use Rattle.lists.specs.Lists.{fill}
+use Rattle.lists.proofs.Tests.{below-suc}
+
+pub fill-next : (size : ℕ) (f : ℕ → ℕ) (n : ℕ) {v : ℕ} {xs : List ℕ} → xs ≡ fill size f n → v ≡ f n → set xs n v ≡ fill size f (n + 1)
+unfolding fill
+fill-next size f n {v} {xs} e q = rw (add-one, e, q)
+
+pub fill-length : (size : ℕ) (f : ℕ → ℕ) (n : ℕ) → length (fill size f n) ≡ size
+unfolding fill
+fill-length size f zero = length-replicate size 0
+fill-length size f (suc n) = length-set (fill size f n) n (f n) ∙ fill-length size f n
+
+-- an array of zeros
+pub zeros-at : (size k : ℕ) → _≡_ {A = ℕ} (getD (replicate size 0) k 0) 0
+zeros-at zero k = refl
+zeros-at (suc size) zero = refl
+zeros-at (suc size) (suc k) = zeros-at size k
+
+module _ (size : ℕ) (f : ℕ → ℕ) where
+  pub fill-at : (n k : ℕ) → n ≤ size → k < n → getD (fill size f n) k 0 ≡ f k
+  unfolding fill
+  fill-at zero k u l = absurd (not-suc-le-zero l)
+  fill-at (suc n) k u l = at (below-suc k n l) (fill-at n k (omega arith))
+    where
+      at : (k < n) ⊎ (k ≡ n) → (k < n → getD (fill size f n) k 0 ≡ f k) → getD (set (fill size f n) n (f n)) k 0 ≡ f k
+      at (inl s) h = getD-set-other (fill size f n) n k (f n) 0 (λ q. omega arith) ∙ h s
+      at (inr q) h = rw q (getD-set-same (fill size f n) n (f n) 0 (omega (arith, fill-length size f n)))
+
+  -- past what is filled there are zeros
+  pub fill-past : (n k : ℕ) → n ≤ k → getD (fill size f n) k 0 ≡ 0
+  unfolding fill
+  fill-past zero k l = zeros-at size k
+  fill-past (suc n) k l = getD-set-other (fill size f n) n k (f n) 0 (λ q. omega arith) ∙ fill-past n k (omega arith)
