@@ -41,7 +41,7 @@ passed : (n : ℕ) (b : Bool) (r : Refusal) → sentence n b r ≡ nothing → (
 passed n true r e = absurd (let z : _≡_ {A = ℕ} 0 1 = cc in omega arith)
 passed n false r e = (refl, e)
 
-inside : (lo hi x : ℕ) → outside lo hi x ≡ false → x ≤ hi
+pub inside : (lo hi x : ℕ) → outside lo hi x ≡ false → x ≤ hi
 unfolding outside
 inside lo hi x h = ltb-false hi x (neither (ltb x lo) (ltb hi x) h .1)
 

@@ -69,7 +69,7 @@ is-digit : (d : ℕ) → d < 10 → digit (48 + d) ≡ true
 unfolding digit
 is-digit d l = join (leb 48 (48 + d)) (leb (48 + d) 57) (le-leb 48 (48 + d) (omega arith)) (le-leb (48 + d) 57 (omega arith))
 
-digit-is : (b : ℕ) → digit b ≡ true → (48 + (b - 48) ≡ b) × (b - 48 < 10)
+pub digit-is : (b : ℕ) → digit b ≡ true → (48 + (b - 48) ≡ b) × (b - 48 < 10)
 unfolding digit
 digit-is b h =
     let k = both (leb 48 b) (leb b 57) h in
@@ -81,7 +81,7 @@ may-go-on : (n d : ℕ) → 0 < n → n < 100000000 → d < 10 → goes-on n (48
 unfolding goes-on
 may-go-on n d l m h = rw (is-digit d h, lt-ltb 0 n l) (le-leb n 99999999 (omega arith))
 
-went-on : (n b : ℕ) → goes-on n b ≡ true → (48 + (b - 48) ≡ b) × (b - 48 < 10) × (0 < n) × (n < 100000000)
+pub went-on : (n b : ℕ) → goes-on n b ≡ true → (48 + (b - 48) ≡ b) × (b - 48 < 10) × (0 < n) × (n < 100000000)
 unfolding goes-on
 went-on n b h =
     let k = both (digit b) (ltb 0 n && leb n 99999999) h in

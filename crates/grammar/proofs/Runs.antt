@@ -15,7 +15,7 @@ use Rattle.grammar.proofs.Inverse.{Inverse}
 
 module _ {A : Type 0} {parse : List ℕ → Parsed A} {line numbers : A → List ℕ} (k : Inverse parse line numbers) (ends : parse [] ≡ none) where
   -- a line is not empty
-  shorter : (s : List ℕ) (x : A) (r : List ℕ) → parse s ≡ got x r → length r < length s
+  pub shorter : (s : List ℕ) (x : A) (r : List ℕ) → parse s ≡ got x r → length r < length s
   shorter s x r h = at (line x) refl
     where
       at : (l : List ℕ) → line x ≡ l → length r < length s
@@ -51,11 +51,11 @@ module _ {A : Type 0} {parse : List ℕ → Parsed A} {line numbers : A → List
           more-in n s x r e ∙ rw (ih r (omega arith) (omega arith)) (sym (more-in m s x r e))
 
   -- where no such line stands the run is over, and where one stands it goes on behind it
-  run-over : (s : List ℕ) → parse s ≡ none → run-at parse s ≡ got [] s
+  pub run-over : (s : List ℕ) → parse s ≡ none → run-at parse s ≡ got [] s
   unfolding run-at
   run-over s h = over-in (length s) s h
 
-  run-more : (s : List ℕ) (x : A) (r : List ℕ) → parse s ≡ got x r → run-at parse s ≡ and-then (run-at parse r) (λ xs q. got (x ∷ xs) q)
+  pub run-more : (s : List ℕ) (x : A) (r : List ℕ) → parse s ≡ got x r → run-at parse s ≡ and-then (run-at parse r) (λ xs q. got (x ∷ xs) q)
   unfolding run-at
   run-more [] x r h = not-got (sym ends ∙ h)
   run-more (b ∷ s) x r h =

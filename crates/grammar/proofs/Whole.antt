@@ -14,22 +14,22 @@ use Rattle.grammar.proofs.Forms.{head-line, head-reads, slot-reads, pro
 use Rattle.grammar.proofs.Runs.{run-complete, run-sound}
 
 -- Each run is over where the next lines begin, and at the end.
-edge-over : edge-at [] ≡ none
+pub edge-over : edge-at [] ≡ none
 unfolding edge-at field-at word-at
 edge-over = refl
 
-condition-over : (es : List Edge) → condition-at (each edge-line es ++ []) ≡ none
+pub condition-over : (es : List Edge) → condition-at (each edge-line es ++ []) ≡ none
 unfolding condition-at closed-at field-at word-at edge-line field
 condition-over [] = refl
 condition-over (e ∷ es) = refl
 
-process-over : (cs : List ℕ) (es : List Edge) → process-at (each condition-line cs ++ (each edge-line es ++ [])) ≡ none
+pub process-over : (cs : List ℕ) (es : List Edge) → process-at (each condition-line cs ++ (each edge-line es ++ [])) ≡ none
 unfolding process-at field-at word-at condition-line edge-line field
 process-over [] [] = refl
 process-over [] (e ∷ es) = refl
 process-over (c ∷ cs) es = refl
 
-slot-over : (qs : List Process) (cs : List ℕ) (es : List Edge) → slot-at (each process-line qs ++ (each condition-line cs ++ (each edge-line es ++ []))) ≡ none
+pub slot-over : (qs : List Process) (cs : List ℕ) (es : List Edge) → slot-at (each process-line qs ++ (each condition-line cs ++ (each edge-line es ++ []))) ≡ none
 unfolding slot-at field-at word-at process-line condition-line edge-line field
 slot-over [] [] [] = refl
 slot-over [] [] (e ∷ es) = refl

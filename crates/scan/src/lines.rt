@@ -1,0 +1,191 @@
+// The lines of the plan text at a position.
+use crate::words::NumberAt;
+use crate::words::WordAt;
+use crate::words::closed;
+use crate::words::field;
+use crate::words::word;
+use plan::Edge;
+use plan::Pick;
+use plan::Process;
+use plan::Slot;
+use plan::Waits;
+use plan::When;
+ghost use Prim.Native.Nat.{_≤_};
+ghost use lib.ListN.{length, drop};
+ghost use Rattle.grammar.specs.Parse.{pick-at, waits-at, when-at, head-at, slot-at, process-at, condition-at, edge-at};
+ghost use Rattle.scan.specs.Place.{Scanned, number, pick, waits, when, head, slot, process, edge};
+
+// A `pick` and the position behind its line, or that none stands there.
+pub enum PickAt {
+    Got(Pick, usize),
+    No,
+}
+
+// A `waits` and the position behind its line, or that none stands there.
+pub enum WaitsAt {
+    Got(Waits, usize),
+    No,
+}
+
+// A `when` and the position behind its line, or that none stands there.
+pub enum WhenAt {
+    Got(When, usize),
+    No,
+}
+
+// The `byte` and the `pick` of a plan line and the position behind it, or that none stands there.
+pub enum HeadAt {
+    Got(u32, Pick, usize),
+    No,
+}
+
+// A slot and the position behind its line, or that none stands there.
+pub enum SlotAt {
+    Got(Slot, usize),
+    No,
+}
+
+// A process and the position behind its line, or that none stands there.
+pub enum ProcessAt {
+    Got(Process, usize),
+    No,
+}
+
+// An edge and the position behind its line, or that none stands there.
+pub enum EdgeAt {
+    Got(Edge, usize),
+    No,
+}
+
+// The end of the plan line.
+fn pick(text: &[u8], at: usize) -> PickAt
+    requires { ⌜ at ≤ length (now text) ⌝ }
+    ensures { λ r. ⌜ Scanned (now (text .entry)) (pick r) (pick-at (drop at (now (text .entry)))) ⌝ }
+{
+    if let WordAt::Got(i) = word(text, at, b" (pick urgency))\n") {
+        return PickAt::Got(Pick::Urgency, i);
+    }
+    if let WordAt::Got(i) = word(text, at, b" (pick number))\n") {
+        return PickAt::Got(Pick::Number, i);
+    }
+    PickAt::No
+}
+
+// The end of a process line.
+fn waits(text: &[u8], at: usize) -> WaitsAt
+    requires { ⌜ at ≤ length (now text) ⌝ }
+    ensures { λ r. ⌜ Scanned (now (text .entry)) (waits r) (waits-at (drop at (now (text .entry)))) ⌝ }
+{
+    if let WordAt::Got(i) = word(text, at, b" (waits all))\n") {
+        return WaitsAt::Got(Waits::All, i);
+    }
+    if let WordAt::Got(i) = word(text, at, b" (waits any))\n") {
+        return WaitsAt::Got(Waits::Any, i);
+    }
+    WaitsAt::No
+}
+
+// The end of an edge line.
+fn when(text: &[u8], at: usize) -> WhenAt
+    requires { ⌜ at ≤ length (now text) ⌝ }
+    ensures { λ r. ⌜ Scanned (now (text .entry)) (when r) (when-at (drop at (now (text .entry)))) ⌝ }
+{
+    if let WordAt::Got(i) = word(text, at, b" (when always))\n") {
+        return WhenAt::Got(When::Always, i);
+    }
+    if let NumberAt::Got(k, i) = closed(text, at, b" (when (true ", b"))\n") {
+        return WhenAt::Got(When::True(k), i);
+    }
+    if let NumberAt::Got(k, i) = closed(text, at, b" (when (false ", b"))\n") {
+        return WhenAt::Got(When::False(k), i);
+    }
+    WhenAt::No
+}
+
+// The plan line at `at`.
+pub fn head(text: &[u8], at: usize) -> HeadAt
+    requires { ⌜ at ≤ length (now text) ⌝ }
+    ensures { λ r. ⌜ Scanned (now (text .entry)) (head r) (head-at (drop at (now (text .entry)))) ⌝ }
+{
+    let NumberAt::Got(byte, i) = field(text, at, b"(plan (byte ") else {
+        return HeadAt::No;
+    };
+    let PickAt::Got(k, j) = pick(text, i) else {
+        return HeadAt::No;
+    };
+    HeadAt::Got(byte, k, j)
+}
+
+// The slot line at `at`.
+pub fn slot(text: &[u8], at: usize) -> SlotAt
+    requires { ⌜ at ≤ length (now text) ⌝ }
+    ensures { λ r. ⌜ Scanned (now (text .entry)) (slot r) (slot-at (drop at (now (text .entry)))) ⌝ }
+{
+    let NumberAt::Got(node, i) = field(text, at, b"(slot (node ") else {
+        return SlotAt::No;
+    };
+    let NumberAt::Got(bytes, j) = closed(text, i, b" (bytes ", b")\n") else {
+        return SlotAt::No;
+    };
+    SlotAt::Got(Slot { node, bytes }, j)
+}
+
+// The process line at `at`.
+pub fn process(text: &[u8], at: usize) -> ProcessAt
+    requires { ⌜ at ≤ length (now text) ⌝ }
+    ensures { λ r. ⌜ Scanned (now (text .entry)) (process r) (process-at (drop at (now (text .entry)))) ⌝ }
+{
+    let NumberAt::Got(node, i) = field(text, at, b"(process (node ") else {
+        return ProcessAt::No;
+    };
+    let NumberAt::Got(ticks, j) = field(text, i, b" (ticks ") else {
+        return ProcessAt::No;
+    };
+    let WaitsAt::Got(w, k) = waits(text, j) else {
+        return ProcessAt::No;
+    };
+    ProcessAt::Got(
+        Process {
+            node,
+            ticks,
+            waits: w,
+        },
+        k,
+    )
+}
+
+// The condition line at `at`.
+pub fn condition(text: &[u8], at: usize) -> NumberAt
+    requires { ⌜ at ≤ length (now text) ⌝ }
+    ensures { λ r. ⌜ Scanned (now (text .entry)) (number r) (condition-at (drop at (now (text .entry)))) ⌝ }
+{
+    closed(text, at, b"(condition (process ", b")\n")
+}
+
+// The edge line at `at`.
+pub fn edge(text: &[u8], at: usize) -> EdgeAt
+    requires { ⌜ at ≤ length (now text) ⌝ }
+    ensures { λ r. ⌜ Scanned (now (text .entry)) (edge r) (edge-at (drop at (now (text .entry)))) ⌝ }
+{
+    let NumberAt::Got(a, i) = field(text, at, b"(edge (from ") else {
+        return EdgeAt::No;
+    };
+    let NumberAt::Got(b, j) = field(text, i, b" (to ") else {
+        return EdgeAt::No;
+    };
+    let NumberAt::Got(bytes, k) = field(text, j, b" (bytes ") else {
+        return EdgeAt::No;
+    };
+    let WhenAt::Got(w, l) = when(text, k) else {
+        return EdgeAt::No;
+    };
+    EdgeAt::Got(
+        Edge {
+            from: a,
+            to: b,
+            bytes,
+            when: w,
+        },
+        l,
+    )
+}
