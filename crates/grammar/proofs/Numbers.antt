@@ -37,11 +37,11 @@ digits-same (suc f) (suc g) n k l = at (two (ltb n 10)) (digits-same f g (n / 10
         let m = ltb-false n 10 e in
         digits-large f n m ∙ ap (λ l. l ++ ((48 + n % 10) ∷ [])) (r (omega arith) (omega arith)) ∙ sym (digits-large g n m)
 
-decimal-small : (n : ℕ) → n < 10 → decimal n ≡ (48 + n) ∷ []
+pub decimal-small : (n : ℕ) → n < 10 → decimal n ≡ (48 + n) ∷ []
 unfolding decimal
 decimal-small n l = digits-small n n l
 
-decimal-large : (n : ℕ) → 10 ≤ n → decimal n ≡ decimal (n / 10) ++ ((48 + n % 10) ∷ [])
+pub decimal-large : (n : ℕ) → 10 ≤ n → decimal n ≡ decimal (n / 10) ++ ((48 + n % 10) ∷ [])
 unfolding decimal
 decimal-large zero l = absurd (omega arith)
 decimal-large (suc f) l =

@@ -1,7 +1,7 @@
 -- Laws of the definitions in specs/: Tests (and, or, not), Members (what a test over a list says of its members), Keep (equations),
 -- Different (no number twice), Sums, Sorting, Order (comparison and insertion in order), Front (a buffer after a call),
 -- Fill (an array filled one by one), Loops (a loop over the numbers below n), Marks (numbers found twice), Places (a list by its
--- places).
+-- places), Stores (bytes stored one by one).
 pub mod Tests
 pub mod Members
 pub mod Keep
@@ -14,3 +14,4 @@ pub mod Fill
 pub mod Loops
 pub mod Marks
 pub mod Places
+pub mod Stores
