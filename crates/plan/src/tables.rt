@@ -31,7 +31,7 @@ pub struct EdgeTable {
 }
 
 // n, or `most` where n is more
-pub fn at_most(n: usize, most: usize) -> usize
+fn at_most(n: usize, most: usize) -> usize
     ensures { λ r. ⌜ r ≡ min n most ⌝ }
 {
     if most < n {
@@ -40,7 +40,7 @@ pub fn at_most(n: usize, most: usize) -> usize
     n
 }
 
-pub fn any_number(w: Waits) -> u32
+fn any_number(w: Waits) -> u32
     ensures { λ r. ⌜ r ≡ any-number w ⌝ }
 {
     match w {
@@ -49,7 +49,7 @@ pub fn any_number(w: Waits) -> u32
     }
 }
 
-pub fn kind_number(w: When) -> u32
+fn kind_number(w: When) -> u32
     ensures { λ r. ⌜ r ≡ kind-number w ⌝ }
 {
     match w {
@@ -59,7 +59,7 @@ pub fn kind_number(w: When) -> u32
     }
 }
 
-pub fn condition_number(w: When) -> u32
+fn condition_number(w: When) -> u32
     ensures { λ r. ⌜ r ≡ condition-number w ⌝ }
 {
     match w {

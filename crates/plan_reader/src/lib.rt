@@ -1,5 +1,5 @@
 // The reader of plan texts.
-pub mod runs;
+mod runs;
 
 use plan::Plan;
 use plan::empty;
