@@ -1,9 +1,12 @@
-//! Plans the same inputs with each planner in turn and prints nanoseconds per plan for each class
-//! of inputs.
+//! Plans the same inputs with each planner in turn, interleaved, and prints for each class of
+//! inputs the nanoseconds per plan, the ratio to the baseline and, where valgrind is there, the
+//! instructions per plan.
 //!
 //! For each input the least time over all rounds counts; a class's number is the mean over its
-//! inputs.
+//! inputs. Instructions are counted by valgrind on this program itself, called with the words
+//! `repeat CLASS PLANNER TIMES`: twice as many rounds less as many rounds.
 
+use std::process::Command;
 use std::time::{Duration, Instant};
 
 use bench::baseline::{Outcome, Planner};
@@ -37,23 +40,84 @@ const LEAST_TIME: Duration = Duration::from_micros(20);
 const WORDS: usize = 198 * 64 * 5;
 const FRAME_WORDS: usize = 134 * 64 * 3;
 
+/// The planner that the others are compared with.
+const BASELINE: &str = "baseline";
+
+/// A planner whose instructions are not counted: under valgrind it would take minutes.
+const UNCOUNTED: &str = "reference";
+
 fn main() {
-    let mut planners = planners();
-    print!("{:<16}", "class");
-    for (name, _) in &planners {
-        print!("{name:>14}");
+    let words: Vec<String> = std::env::args().skip(1).collect();
+    match words.as_slice() {
+        [] => print_all(),
+        [word, class, planner, times] if word == "repeat" => repeat(class, planner, times),
+        _ => {
+            eprintln!("usage: bench [repeat CLASS PLANNER TIMES]");
+            std::process::exit(2);
+        }
     }
-    println!("   (nanoseconds per plan)");
+}
+
+/// Measures and prints everything.
+fn print_all() {
+    let mut planners = planners();
+    let counted = Command::new("valgrind").arg("--version").output().is_ok();
+    println!("nanoseconds per plan (ratio to the baseline; instructions per plan)");
     for (kind, count) in CLASSES {
         let inputs = inputs(kind, count);
         compare(&mut planners, &inputs);
         let means = measure(&mut planners, &inputs);
+        let base = means[0].max(1) as f64;
         print!("{:<16}", format!("{kind:?}"));
-        for mean in means {
-            print!("{mean:>14}");
+        for ((name, _), mean) in planners.iter().zip(means) {
+            print!("  {name} {mean} ({:.2}", mean as f64 / base);
+            if counted && *name != UNCOUNTED {
+                print!("; {}", instructions(kind, name) / count);
+            }
+            print!(")");
         }
         println!();
     }
+}
+
+/// Plans the inputs of a class so many times over, for valgrind to count.
+fn repeat(class: &str, planner: &str, times: &str) {
+    let (kind, count) = CLASSES
+        .into_iter()
+        .find(|(kind, _)| format!("{kind:?}") == class)
+        .expect("a class of inputs");
+    let mut planners = planners();
+    let (_, plan) = planners
+        .iter_mut()
+        .find(|(name, _)| *name == planner)
+        .expect("a planner");
+    let (mut words, mut frames) = (vec![0; WORDS], vec![0; FRAME_WORDS]);
+    let inputs = inputs(kind, count);
+    for _ in 0..times.parse().expect("a number of times") {
+        for lines in &inputs {
+            let outcome = plan(std::hint::black_box(lines), &mut words, &mut frames);
+            let _ = std::hint::black_box(outcome);
+        }
+    }
+}
+
+/// The instructions of one round over the inputs of a class.
+fn instructions(kind: Kind, planner: &str) -> u64 {
+    let counted = |times: &str| {
+        let program = std::env::current_exe().expect("this program");
+        let out = Command::new("valgrind")
+            .args(["--tool=callgrind", "--callgrind-out-file=/dev/null"])
+            .arg(program)
+            .args(["repeat", &format!("{kind:?}"), planner, times])
+            .output()
+            .expect("valgrind");
+        let said = String::from_utf8_lossy(&out.stderr).into_owned();
+        let line = said.lines().find(|line| line.contains("Collected"));
+        let number = line.and_then(|line| line.split_whitespace().last());
+        number.and_then(|n| n.parse().ok()).expect("a count")
+    };
+    let twice: u64 = counted("2");
+    twice - counted("1")
 }
 
 /// All planners that are measured.
@@ -64,10 +128,10 @@ fn planners<'a>() -> Vec<Named<'a>> {
     let mut baseline = Planner::default();
     vec![
         (
-            "baseline",
+            BASELINE,
             Box::new(move |lines, words, frames| baseline.plan(lines, words, frames)),
         ),
-        ("reference", Box::new(plan_with_reference)),
+        (UNCOUNTED, Box::new(plan_with_reference)),
     ]
 }
 

@@ -12,7 +12,7 @@ pub record Number-case : Type 0 where
   pub bytes : String
   pub stated : Parsed ℕ
 
-pub numbers : List Number-case
+abbrev pub numbers : List Number-case
 numbers =
     record { bytes = "0)"; stated = got 0 [] }
     ∷ record { bytes = "999999999) "; stated = got 999999999 (32 ∷ []) }
@@ -28,7 +28,7 @@ pub record Text-case : Type 0 where
   pub stated : Whole
 
 -- one process that waits for any, by number; what is stated for the texts that are of the form
-small : Lines
+abbrev pub small : Lines
 small =
     record {
       byte = 1;
@@ -39,8 +39,7 @@ small =
       edges = [];
     }
 
-pub texts : List Text-case
-unfolding small
+abbrev pub texts : List Text-case
 texts =
     record { bytes = "(plan (byte 1) (pick number))\n(slot (node 0) (bytes 2))\n(process (node 0) (ticks 7) (waits any))\n"; stated = got-lines small }
     ∷ record { bytes = ""; stated = no-lines }
@@ -52,9 +51,9 @@ texts =
     ∷ []
 
 pub numbers-hold : map (λ c. number-at (text (c .bytes))) numbers ≡ map (λ c. c .stated) numbers
-unfolding numbers number-at digits-at digit goes-on
+unfolding number-at digits-at digit goes-on
 numbers-hold = refl
 
 pub texts-hold : map (λ c. read-lines (text (c .bytes))) texts ≡ map (λ c. c .stated) texts
-unfolding texts read-lines to-end lines-at run-at run-in edge-at condition-at process-at slot-at head-at when-at on-at waits-at pick-at value-at closed-at field-at number-at digits-at goes-on digit word-at
+unfolding read-lines to-end lines-at run-at run-in edge-at condition-at process-at slot-at head-at when-at on-at waits-at pick-at value-at closed-at field-at number-at digits-at goes-on digit word-at
 texts-hold = refl

@@ -45,20 +45,19 @@ pub record Case : Type 0 where
   pub asked : Question
   pub stated : Outcome
 
-refusal-number : Refusal → ℕ
+abbrev pub refusal-number : Refusal → ℕ
 refusal-number nothing = 0
 refusal-number (refused n) = n
 
-answer-number : Answer → ℕ
+abbrev pub answer-number : Answer → ℕ
 answer-number (turned-down n) = n
 answer-number (made r) = 0
 
-written-number : Written → ℕ
+abbrev pub written-number : Written → ℕ
 written-number (wrote bytes) = 0
 written-number (not-written n) = n
 
-pub outcome : Question → Outcome
-unfolding refusal-number answer-number written-number
+abbrev pub outcome : Question → Outcome
 outcome (prints p) = list (print p)
 outcome (lists p) = list (printed p (plan-answer p 15000 6000))
 outcome (worst p) = number (result p .delay)
@@ -75,21 +74,20 @@ outcome (finds p bytes n t h v from) = number (found-number (lookup p (words-of 
 outcome (starts p ws c times i) = list (starts-of (run-before p ws (lookup p ws) c times 40) i)
 
 -- short forms of lines
-slot : ℕ → ℕ → Slot
+abbrev pub slot : ℕ → ℕ → Slot
 slot n b = record { node = n; bytes = b }
 
-all-of : ℕ → ℕ → Process
+abbrev pub all-of : ℕ → ℕ → Process
 all-of n t = record { node = n; ticks = t; waits = waits-all }
 
-any-of : ℕ → ℕ → Process
+abbrev pub any-of : ℕ → ℕ → Process
 any-of n t = record { node = n; ticks = t; waits = waits-any }
 
-arc : ℕ → ℕ → ℕ → When → Edge
+abbrev pub arc : ℕ → ℕ → ℕ → When → Edge
 arc i j b w = record { from = i; to = j; bytes = b; when = w }
 
 -- S, with the ticks of process 0 and the bytes of the third edge
-S-with : ℕ → ℕ → Lines
-unfolding slot all-of any-of arc
+abbrev pub S-with : ℕ → ℕ → Lines
 S-with ticks third =
     record {
       byte = 2;
@@ -100,11 +98,10 @@ S-with ticks third =
       edges = arc 0 1 1 (on true 0) ∷ arc 0 2 1 (on false 0) ∷ arc 1 3 third always ∷ arc 2 3 1 always ∷ [];
     }
 
-S : Lines
-unfolding S-with
+abbrev pub S : Lines
 S = S-with 4 2
 
-words-S : List ℕ
+abbrev pub words-S : List ℕ
 words-S =
     0 ∷ 0 ∷ 0 ∷ 0 ∷ 0
     ∷ 1 ∷ 1 ∷ 1 ∷ 20 ∷ 0
@@ -116,13 +113,11 @@ words-S =
     ∷ 8 ∷ 0 ∷ 0 ∷ 8 ∷ 0 ∷ []
 
 -- the words of S's table with entry e's field f (row, known, values, tick, place) changed
-edited : ℕ → ℕ → ℕ → List ℕ
-unfolding words-S
+abbrev pub edited : ℕ → ℕ → ℕ → List ℕ
 edited e f v = set words-S (5 * e + f) v
 
 -- "Byte 1, slots 4 (node 0) and 1 (node 1), process 0 of 1 tick on node 0 sending 3, 2 and 1 bytes to three processes of 2 ticks on node 1"
-packing : Lines
-unfolding slot all-of arc
+abbrev pub packing : Lines
 packing =
     record {
       byte = 1;
@@ -134,7 +129,7 @@ packing =
     }
 
 -- its table, with the third message at a place
-packing-words : ℕ → List ℕ
+abbrev pub packing-words : ℕ → List ℕ
 packing-words place =
     0 ∷ 0 ∷ 0 ∷ 0 ∷ 0
     ∷ 1 ∷ 0 ∷ 0 ∷ 9 ∷ 0
@@ -145,26 +140,22 @@ packing-words place =
     ∷ 6 ∷ 0 ∷ 0 ∷ 5 ∷ place ∷ []
 
 -- byte 1 and slots of two nodes, with no conditions: processes and edges
-plain : Pick → ℕ → ℕ → List Process → List Edge → Lines
-unfolding slot
+abbrev pub plain : Pick → ℕ → ℕ → List Process → List Edge → Lines
 plain pick a b ps es = record { byte = 1; pick = pick; slots = slot 0 a ∷ slot 1 b ∷ []; processes = ps; conditions = []; edges = es }
 
 -- the same with conditions
-deciding : ℕ → ℕ → List Process → List ℕ → List Edge → Lines
-unfolding slot
+abbrev pub deciding : ℕ → ℕ → List Process → List ℕ → List Edge → Lines
 deciding a b ps cs es = record { byte = 1; pick = by-urgency; slots = slot 0 a ∷ slot 1 b ∷ []; processes = ps; conditions = cs; edges = es }
 
 -- processes on one node
-one-node : Pick → List Process → Lines
-unfolding slot
+abbrev pub one-node : Pick → List Process → Lines
 one-node pick ps = record { byte = 1; pick = pick; slots = slot 0 1 ∷ []; processes = ps; conditions = []; edges = [] }
 
-case : Question → Outcome → Case
+abbrev pub case : Question → Outcome → Case
 case q o = record { asked = q; stated = o }
 
 -- The starred cases of document 01, in its order.
-pub starred : List Case
-unfolding case S-with S words-S edited packing packing-words
+abbrev pub starred : List Case
 starred =
     case (prints S) (list (text "(plan (byte 2) (pick urgency))\n(slot (node 0) (bytes 2))\n(slot (node 1) (bytes 2))\n(process (node 0) (ticks 4) (waits all))\n(process (node 1) (ticks 3) (waits all))\n(process (node 0) (ticks 5) (waits all))\n(process (node 0) (ticks 2) (waits any))\n(condition (process 0))\n(edge (from 0) (to 1) (bytes 1) (when (true 0)))\n(edge (from 0) (to 2) (bytes 1) (when (false 0)))\n(edge (from 1) (to 3) (bytes 2) (when always))\n(edge (from 2) (to 3) (bytes 1) (when always))\n"))
     ∷ case (lists S) (list (text "(delay 34)\n(passed 0)\n(start 0 (when) (at 0))\n(start 1 (when (true 0)) (at 20))\n(start 2 (when (false 0)) (at 12))\n(start 3 (when (false 0)) (at 17))\n(start 3 (when (true 0)) (at 32))\n(send 0 (when (true 0)) (at 16) (place 0))\n(send 2 (when (true 0)) (at 28) (place 0))\n(tell 0 (when) (at 8) (place 0))\n(frame 8 (node 0) (bytes 1))\n(frame 16 (node 0) (bytes 1))\n(frame 28 (node 1) (bytes 2))\n"))
@@ -188,8 +179,7 @@ starred =
     ∷ []
 
 -- "Where a planner goes astray", and the readings of docs/DECISIONS.md that change a table.
-pub planning : List Case
-unfolding case slot all-of any-of arc plain deciding one-node S-with
+abbrev pub planning : List Case
 planning =
     -- one process alone; two on a node, by urgency and by number; of one urgency the lower number goes first, the other when it has ended
     case (lists (one-node by-urgency (all-of 0 7 ∷ []))) (list (text "(delay 7)\n(passed 0)\n(start 0 (when) (at 0))\n"))
@@ -216,8 +206,7 @@ planning =
     ∷ []
 
 -- Refusals, tables, buffers, queries, lookups and runs beyond the starred ones.
-pub answers : List Case
-unfolding case slot all-of any-of arc plain deciding one-node S-with S words-S edited
+abbrev pub answers : List Case
 answers =
     -- 2 to 8, each on its own
     case (lent (one-node by-urgency []) 0 0) (number 2)
@@ -266,13 +255,13 @@ abbrev pub Hold : List Case → Type 0
 Hold cases = map (λ x. outcome (x .asked)) cases ≡ map (λ x. x .stated) cases
 
 pub starred-hold : Hold starred
-unfolding computing outcome starred
+unfolding computing
 starred-hold = refl
 
 pub planning-hold : Hold planning
-unfolding computing outcome planning
+unfolding computing
 planning-hold = refl
 
 pub answers-hold : Hold answers
-unfolding computing outcome answers
+unfolding computing
 answers-hold = refl
