@@ -32,7 +32,7 @@ runs-next-same p h h′ d d′ i s =
     λ j. if conjunction p i then any-same (may-carry p h d) (may-carry p h′ d′) (into p i) s j else all-same (may-carry p h d) (may-carry p h′ d′) (into p i) s j
 
 module _ (p : Lines) (h : List Heard) where
-  first-length : (n : ℕ) → length (may-run-first p h n) ≡ n
+  pub first-length : (n : ℕ) → length (may-run-first p h n) ≡ n
   unfolding may-run-first
   first-length zero = refl
   first-length (suc n) = omega (arith, length-append (may-run-first p h n) (runs-next p h (may-run-first p h n) n ∷ []), first-length n)

@@ -1,0 +1,5 @@
+-- Laws of a log in memory: Parts (tests over a part of an array), Links (what the arrays say is what the model says), Running (the same of
+-- which processes may run).
+pub mod Parts
+pub mod Links
+pub mod Running

@@ -1,0 +1,16 @@
+-- `readiness::came` meets its contract.
+-- Assumes nothing.
+use borrow.Author.Tests.{eq-eqb, ne-eqb}
+use Rattle.readiness.proofs.came.Statement.{statement}
+use Rattle.readiness.proofs.came.Tie as tie
+
+returns : tie.Need-returns
+returns c =
+    simp (eq-eqb _ _ (c .if1 .taken))
+
+returns-2 : tie.Need-returns-2
+returns-2 c =
+    simp (ne-eqb _ _ (c .if1 .left))
+
+pub came-spec : {M : Type 1} → statement M
+came-spec = tie.close (tie.spec returns returns-2)

@@ -1,0 +1,40 @@
+-- Arrays that hold a plan's lines and a combination, and an array by row that holds a log. Past the plan's lines the arrays have 0, as the
+-- model's empty line has, so that what is said of an edge or of a process holds of every number.
+-- Assumes nothing.
+use mathlib.Core.Path.{_≡_}
+use mathlib.Core.Bool.{Bool, true, false, not, Bool·beq}
+use mathlib.Core.List.{List}
+use Prim.Native.Nat.{ℕ, suc, _<_}
+use lib.Dec.{eqb}
+use lib.ListN.{length, getD}
+use Rattle.model.specs.Plan.{Lines, When, always, on, edge, into, local}
+use Rattle.model.specs.Activity.{conjunction}
+use Rattle.model.specs.Bus.{condition-row}
+use Rattle.model.specs.Log.{Log, placed, full-ticks, over}
+use Rattle.readiness.specs.Reading.{came-by, placed-by, edges-into}
+
+-- the row that makes the `when` of an edge from process i known: its condition's, or the sender's own where it is always met
+abbrev pub cue-row : Lines → ℕ → When → ℕ
+cue-row p i always = i
+cue-row p i (on v k) = condition-row p k
+
+-- a `when` is met in a combination
+abbrev pub met-in : List Bool → When → Bool
+met-in c always = true
+met-in c (on v k) = Bool·beq (getD c k false) v
+
+pub record Holds (p : Lines) (c : List Bool) (from cue unmet remote several first edges : List ℕ) : Type 0 where
+  pub senders : (e : ℕ) → getD from e 0 ≡ edge p e .from
+  pub cues : (e : ℕ) → getD cue e 0 ≡ cue-row p (edge p e .from) (edge p e .when)
+  pub met : (e : ℕ) → eqb (getD unmet e 0) 0 ≡ met-in c (edge p e .when)
+  pub locals : (e : ℕ) → eqb (getD remote e 0) 0 ≡ local p e
+  pub conjunctions : (i : ℕ) → not (eqb (getD several i 0) 0) ≡ conjunction p i
+  pub leading : (i : ℕ) → i < length (p .processes) → edges-into first edges i ≡ into p i
+
+pub record Logged (p : Lines) (log : Log) (comes : List ℕ) : Type 0 where
+  pub over-by : (t : ℕ) → over p (full-ticks p) log t ≡ came-by comes (suc t)
+  pub put-by : placed log ≡ placed-by comes
+
+-- an array by process says what may run
+abbrev pub Runs : List ℕ → List Bool → Type 0
+Runs run may = (i : ℕ) → eqb (getD run i 0) 0 ≡ not (getD may i false)
