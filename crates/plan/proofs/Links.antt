@@ -94,11 +94,11 @@ twins (e ∷ es) h =
     λ j. first j || twins es (λ f m. h f (there m)) j
 
 module _ (p : Plan) where
-  slots-length : length (lines p .slots) ≡ p .slots
+  pub slots-length : length (lines p .slots) ≡ p .slots
   unfolding lines
   slots-length = counted-length memory.slot-of no-slot (p .slots) (p .slot)
 
-  processes-length : length (lines p .processes) ≡ p .processes
+  pub processes-length : length (lines p .processes) ≡ p .processes
   unfolding lines
   processes-length = counted-length process-of memory.no-process (p .processes) (p .process)
 
@@ -106,7 +106,7 @@ module _ (p : Plan) where
   unfolding lines
   conditions-length = counted-length (λ i. i) 0 (p .conditions) (p .condition)
 
-  edges-length : length (lines p .edges) ≡ p .edges
+  pub edges-length : length (lines p .edges) ≡ p .edges
   unfolding lines
   edges-length = counted-length edge-of no-edge (p .edges) (p .edge)
 
@@ -136,27 +136,27 @@ module _ (p : Plan) where
     abbrev slot : ℕ → Slot
     slot i = getD (lines p .slots) i (record { node = 0; bytes = 0 })
 
-    slot-node : (i : ℕ) → at (slots-table p .node) i ≡ slot i .node
+    pub slot-node : (i : ℕ) → at (slots-table p .node) i ≡ slot i .node
     unfolding lines slots-table
     slot-node i = column memory.slot-of no-slot (p .slots) (p .slot) (λ s. s .node) 8 _ (λ k. refl) refl (f .slots) i
 
-    slot-room : (i : ℕ) → at (slots-table p .bytes) i ≡ slot i .bytes
+    pub slot-room : (i : ℕ) → at (slots-table p .bytes) i ≡ slot i .bytes
     unfolding lines slots-table
     slot-room i = column memory.slot-of no-slot (p .slots) (p .slot) (λ s. s .bytes) 8 _ (λ k. refl) refl (f .slots) i
 
-    process-node : (i : ℕ) → at (processes-table p .node) i ≡ process (lines p) i .node
+    pub process-node : (i : ℕ) → at (processes-table p .node) i ≡ process (lines p) i .node
     unfolding lines processes-table
     process-node i = column process-of memory.no-process (p .processes) (p .process) (λ q. q .node) 64 _ (λ k. refl) refl (f .processes) i
 
-    process-ticks : (i : ℕ) → at (processes-table p .ticks) i ≡ process (lines p) i .ticks
+    pub process-ticks : (i : ℕ) → at (processes-table p .ticks) i ≡ process (lines p) i .ticks
     unfolding lines processes-table
     process-ticks i = column process-of memory.no-process (p .processes) (p .process) (λ q. q .ticks) 64 _ (λ k. refl) refl (f .processes) i
 
-    edge-from : (i : ℕ) → at (edges-table p .from) i ≡ edge (lines p) i .from
+    pub edge-from : (i : ℕ) → at (edges-table p .from) i ≡ edge (lines p) i .from
     unfolding lines edges-table
     edge-from i = column edge-of no-edge (p .edges) (p .edge) (λ e. e .from) 128 _ (λ k. refl) refl (f .edges) i
 
-    edge-to : (i : ℕ) → at (edges-table p .to) i ≡ edge (lines p) i .to
+    pub edge-to : (i : ℕ) → at (edges-table p .to) i ≡ edge (lines p) i .to
     unfolding lines edges-table
     edge-to i = column edge-of no-edge (p .edges) (p .edge) (λ e. e .to) 128 _ (λ k. refl) refl (f .edges) i
 
@@ -262,7 +262,7 @@ module _ (p : Plan) where
         pick true = refl
         pick false = refl
 
-    room-same : (n : ℕ) → slot-bytes (slots-table p .node) (slots-table p .bytes) n (below (p .slots)) ≡ slot-of (lines p) n .bytes
+    pub room-same : (n : ℕ) → slot-bytes (slots-table p .node) (slots-table p .bytes) n (below (p .slots)) ≡ slot-of (lines p) n .bytes
     unfolding slot-of
     room-same n = room-among n (below (p .slots)) ∙ ap (λ (ss : List Slot). slot-among ss n .bytes) (list-below _ (lines p .slots) (p .slots) slots-length)
 

@@ -1,0 +1,25 @@
+-- Masks: a word whose bits stand for conditions, condition 0 the lowest bit.
+-- Assumes nothing.
+use Prim.Native.Nat.{ℕ, zero, suc, _+_, _*_}
+use mathlib.Core.Bool.{Bool, false}
+use mathlib.Core.List.{List}
+use lib.ListN.{getD}
+use Rattle.lists.specs.Lists.{if_then_else_, keep, below}
+use Rattle.model.specs.Listing.{bit}
+
+-- the conditions whose bits are set in a mask of six bits, ascending
+unfoldable pub members : ℕ → List ℕ
+members m = keep (bit m) (below 6)
+
+-- a mask with one bit more below its lowest
+abbrev pub under : Bool → ℕ → ℕ
+under b m = (if b then 1 else 0) + 2 * m
+
+-- the mask of a test on the numbers a, a + 1, .., n of them, a the lowest bit
+abbrev pub mask-from : (ℕ → Bool) → ℕ → ℕ → ℕ
+mask-from f a zero = 0
+mask-from f a (suc n) = under (f a) (mask-from f (suc a) n)
+
+-- the number of a combination of n conditions
+abbrev pub number-of : ℕ → List Bool → ℕ
+number-of n c = mask-from (λ k. getD c k false) 0 n

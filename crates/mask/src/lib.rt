@@ -1,0 +1,50 @@
+// Masks of up to six conditions: the members of a mask lowest first, their number, and a mask built from its highest bit down.
+ghost use mathlib.Core.Path.{_≡_};
+ghost use mathlib.Core.List.{_∷_};
+ghost use Prim.Native.Nat.{_<_};
+ghost use lib.ListN.{length, drop};
+ghost use Rattle.lists.specs.Lists.{null};
+ghost use Rattle.mask.specs.Masks.{members, under};
+
+// Whether a mask has no members.
+pub fn is_empty(mask: u32) -> bool
+    requires { ⌜ mask < 64 ⌝ }
+    ensures { λ r. ⌜ r ≡ null (members mask) ⌝ }
+{
+    mask == 0
+}
+
+// The lowest member of a mask.
+pub fn lowest(mask: u32) -> u32
+    requires { ⌜ (0 < mask) × (mask < 64) ⌝ }
+    ensures { λ r. ⌜ members mask ≡ r ∷ drop 1 (members mask) ⌝ }
+{
+    u32::trailing_zeros(mask)
+}
+
+// How many members a mask has.
+pub fn how_many(mask: u32) -> u32
+    requires { ⌜ mask < 64 ⌝ }
+    ensures { λ r. ⌜ r ≡ length (members mask) ⌝ }
+{
+    u32::count_ones(mask)
+}
+
+// A mask without its lowest member.
+pub fn without_lowest(mask: u32) -> u32
+    requires { ⌜ (0 < mask) × (mask < 64) ⌝ }
+    ensures { λ r. ⌜ (members r ≡ drop 1 (members mask)) × (r < mask) ⌝ }
+{
+    mask & (mask - 1)
+}
+
+// A mask with one bit more below its lowest.
+pub fn with_bit(mask: u32, set: bool) -> u32
+    requires { ⌜ mask < 32 ⌝ }
+    ensures { λ r. ⌜ (r ≡ under set mask) × (r < 64) ⌝ }
+{
+    if set {
+        return mask * 2 + 1;
+    }
+    mask * 2
+}

@@ -1,0 +1,5 @@
+-- Laws of the fixed orders: Gathering (groups in an array), Downward (urgencies from the last process down), Model (the arrays of a
+-- plan and its lines).
+pub mod Gathering
+pub mod Downward
+pub mod Model

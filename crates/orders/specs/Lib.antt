@@ -1,0 +1,3 @@
+pub mod Urgency
+pub mod Groups
+pub mod Orders

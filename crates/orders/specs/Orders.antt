@@ -1,0 +1,18 @@
+-- The fixed orders of planning: what each part of the arrays holds, in the words of the model.
+-- Assumes nothing.
+use Prim.Native.Nat.{ℕ, _<_}
+use mathlib.Core.Bool.{not, _&&_}
+use lib.Dec.{eqb}
+use Rattle.lists.specs.Lists.{keep}
+use Rattle.model.specs.Plan.{process, edge, into, local, unit}
+use Rattle.model.specs.Planning.{turns, queue}
+use Rattle.plan.specs.declared.Plan.{Plan}
+use Rattle.plan.specs.Memory.{lines}
+use Rattle.orders.specs.declared.Orders.{Orders}
+use Rattle.orders.specs.Groups.{Part}
+
+pub record Ordered (p : Plan) (o : Orders) : Type 0 where
+  pub into : (i : ℕ) → i < p .processes → Part (o .intofirst) (o .into) i (into (lines p) i)
+  pub turns : (u : ℕ) → u < p .slots → Part (o .turnfirst) (o .turn) u (keep (λ i. eqb (unit (lines p) i) u) (turns (lines p)))
+  pub queue : (n : ℕ) → n < p .slots →
+      Part (o .queuefirst) (o .queue) n (keep (λ e. eqb (process (lines p) (edge (lines p) e .from) .node) n && not (local (lines p) e)) (queue (lines p)))
