@@ -2,12 +2,12 @@
 -- Assumes nothing.
 use Prim.Native.Nat.{ℕ, _/_, _%_, _^_}
 use mathlib.Core.Bool.{Bool}
-use mathlib.Core.List.{List, [], _++_}
+use mathlib.Core.List.{List, [], _∷_, _++_}
 use lib.Dec.{eqb, ltb}
 use Rattle.lists.specs.Lists.{if_then_else_, each, sum}
 use Rattle.model.specs.Plan.{Lines, conditions}
 use Rattle.model.specs.Bus.{rows, is-process, is-edge, row-edge, row-condition}
-use Rattle.model.specs.Table.{Entry, Frame, Answer, turned-down, made}
+use Rattle.model.specs.Table.{Entry, Frame, Answer, turned-down, made, entries-of, frames-of}
 use Rattle.model.specs.Text.{text, decimal, field, Written, unless-refused, fitting}
 
 -- "conditions in a `when` are the plan's too and ascend strictly"
@@ -45,6 +45,10 @@ passed-lines passed = field "passed" (sum passed) ++ text "\n"
 
 unfoldable pub listing : Lines → ℕ → List ℕ → List Entry → List Frame → List ℕ
 listing p delay passed es fs = field "delay" delay ++ text "\n" ++ passed-lines passed ++ each (entry-line p) es ++ each frame-line fs
+
+-- the listing of a table and a frame list as words, with the worst delay and the pass-over count
+unfoldable pub words-listing : Lines → ℕ → ℕ → List ℕ → List ℕ → List ℕ
+words-listing p delay count table fs = listing p delay (count ∷ []) (entries-of table) (frames-of fs)
 
 -- "A refusal prints `(refused 9)`, with its number, alone."
 unfoldable pub printed : Lines → Answer → List ℕ

@@ -120,7 +120,7 @@ result p =
       frames = frames p es;
     }
 
--- tables and frame lists as words, and the entries of a table, of which "stray last words are ignored"
+-- tables and frame lists as words, and the entries and frames of words, of which "stray last words are ignored"
 abbrev pub entry-words : List Entry → List ℕ
 entry-words [] = []
 entry-words (e ∷ es) = e .row ∷ e .known ∷ e .values ∷ e .tick ∷ e .place ∷ entry-words es
@@ -136,6 +136,12 @@ entries-of (a ∷ b ∷ []) = []
 entries-of (a ∷ b ∷ c ∷ []) = []
 entries-of (a ∷ b ∷ c ∷ d ∷ []) = []
 entries-of (a ∷ b ∷ c ∷ d ∷ e ∷ ws) = record { row = a; known = b; values = c; tick = d; place = e } ∷ entries-of ws
+
+abbrev pub frames-of : List ℕ → List Frame
+frames-of [] = []
+frames-of (a ∷ []) = []
+frames-of (a ∷ b ∷ []) = []
+frames-of (a ∷ b ∷ c ∷ ws) = record { tick = a; node = b; used = c } ∷ frames-of ws
 
 -- The planner's answer, given how many words are lent for entries and for frames: 2 to 9, then 10: "The planner's entries need more
 -- words [..] than lent", then 11: "Its frames need more words than lent."

@@ -3,14 +3,14 @@
 -- Assumes nothing.
 use mathlib.Core.Path.{_≡_}
 use mathlib.Core.Bool.{Bool, true, false, not, Bool·beq}
-use mathlib.Core.List.{List}
-use Prim.Native.Nat.{ℕ, suc, _<_}
+use mathlib.Core.List.{List, [], _∷_}
+use Prim.Native.Nat.{ℕ, suc, _+_, _<_}
 use lib.Dec.{eqb}
 use lib.ListN.{length, getD}
 use Rattle.model.specs.Plan.{Lines, When, always, on, edge, into, local}
 use Rattle.model.specs.Activity.{conjunction}
 use Rattle.model.specs.Bus.{condition-row}
-use Rattle.model.specs.Log.{Log, placed, full-ticks, over}
+use Rattle.model.specs.Log.{Log, of-row, placed, full-ticks, span, over}
 use Rattle.readiness.specs.Reading.{came-by, placed-by, edges-into}
 
 -- the row that makes the `when` of an edge from process i known: its condition's, or the sender's own where it is always met
@@ -34,6 +34,18 @@ pub record Holds (p : Lines) (c : List Bool) (from cue unmet remote several firs
 pub record Logged (p : Lines) (log : Log) (comes : List ℕ) : Type 0 where
   pub over-by : (t : ℕ) → over p (full-ticks p) log t ≡ came-by comes (suc t)
   pub put-by : placed log ≡ placed-by comes
+
+-- What two arrays by row hold of a row of a log: 0 where it is not placed, else the tick by which it is over, plus 1, and its place.
+pub data Row (p : Lines) (log : Log) (r come at : ℕ) : Type 0 where
+  absent : of-row log r ≡ [] → come ≡ 0 → Row p log r come at
+  stands : (t : ℕ) → of-row log r ≡ record { row = r; tick = t; place = at } ∷ [] → come ≡ suc (t + span p (full-ticks p) r) → Row p log r come at
+
+-- Two arrays by row hold a log, each row of it once. A process has place 0 throughout.
+pub record Held (p : Lines) (log : Log) (comes place : List ℕ) : Type 0 where
+  pub row : (r : ℕ) → Row p log r (getD comes r 0) (getD place r 0)
+  pub no-place : (i : ℕ) → i < length (p .processes) → getD place i 0 ≡ 0
+  pub comes-long : length comes ≡ 198
+  pub place-long : length place ≡ 198
 
 -- an array by process says what may run
 abbrev pub Runs : List ℕ → List Bool → Type 0
