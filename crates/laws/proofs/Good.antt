@@ -31,6 +31,8 @@ pub record Good (p : Lines) : Type 0 where
   pub has-slot : (i : ℕ) → i < length (p .processes) → (s : Slot) × In s (p .slots) × (s .node ≡ process p i .node)
   pub node-in : (i : ℕ) → i < length (p .processes) → process p i .node < length (p .slots)
   pub unit-in : (i : ℕ) → i < length (p .processes) → In (unit p i) (units p)
+  pub slot-there : (n : ℕ) → n < length (p .slots) → (s : Slot) × In s (p .slots) × (s .node ≡ n)
+  pub slot-node-in : (s : Slot) → In s (p .slots) → s .node < length (p .slots)
   pub units-differ : repeated (units p) ≡ false
   pub one-slot : repeated (map (λ s. s .node) (p .slots)) ≡ false
   pub decides : (k : ℕ) → k < length (p .conditions) → decider p k < length (p .processes)
@@ -118,6 +120,8 @@ good p h =
       has-slot = λ i l. slot-with p (process p i .node) (there i l);
       node-in = process-node;
       unit-in = there;
+      slot-there = λ n l. slot-with p n (node-there p (b4 .0) (a4 .1) n l);
+      slot-node-in = λ s m. leb-false _ _ (none-in (λ s. no-node p (s .node)) (b4 .0) m);
       one-slot = a4 .1;
       units-differ = a4 .1;
       decides = λ k l. leb-false _ _ (none-at (no-process p) (p .conditions) k 0 (a5 .0) l);

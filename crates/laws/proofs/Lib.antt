@@ -13,6 +13,7 @@
 --   NonAnticipation combinations that agree on what is known at a tick have the same plan up to and including it
 --   QuietTicks      a tick at which nothing ends or arrives and no slot with a pending item begins changes nothing
 --   OnlyDue, Once   only due rows are placed, each at most once
+--   Events          which slot begins at a tick, what it goes by, and how many slots pass a ready item over
 --   History         what stands in the log was placed at its tick, and what was over or known then stays so
 --   Safety          `planning-keeps`: the log before every tick keeps the rules
 --
@@ -46,6 +47,7 @@ pub mod NonAnticipation
 pub mod QuietTicks
 pub mod OnlyDue
 pub mod Once
+pub mod Events
 pub mod History
 pub mod Safety
 pub mod Potential

@@ -26,6 +26,7 @@ use Rattle.laws.proofs.OnlyDue.{only-due}
 use Rattle.laws.proofs.Potential.{lasts, left, Over-by, to-go, start-in-bound, go-later, go-new, go-item, go-runs, left-over, none-left}
 use Rattle.laws.proofs.Rows.{placed-in, in-over, over-placed, done-by, edge-bytes, condition-bytes}
 use Rattle.laws.proofs.Slots.{slot-own, beginning-begins, beginning-within, in-beginning}
+use Rattle.laws.proofs.Events.{pending-fits}
 use Rattle.laws.proofs.Steps.{Started, Pending, broadcast, message, Taken, pending-item, pending-in, in-pending, pack-some, starts-in, in-starts, takes-in, seen, log-at, view-at, new-at, new-in, log-next}
 
 module _ (p : Lines) (c : List Bool) (g : Good p) (count : length c ≡ length (p .conditions)) where
@@ -106,12 +107,6 @@ module _ (p : Lines) (c : List Bool) (g : Good p) (count : length c ≡ length (
 
       -- a waiting item's slot begins within a round, and takes one
       module _ (b : Slot) (is-slot : In b (p .slots)) (r : ℕ) (waits : In r (pending p v (b .node))) where
-        fits : (s : ℕ) → Pending p v (b .node) s → row-bytes p s ≤ b .bytes
-        fits s (broadcast k y) = omega (arith, condition-bytes p k, g .slot-one b is-slot)
-        fits s (message e y) =
-            let q : slot-of p (process p (edge p e .from) .node) ≡ b = ap (slot-of p) (y .on-node) ∙ slot-own p g b is-slot in
-            omega (arith, edge-bytes p e (y .in-range), g .fits e (y .in-range) (y .between), ap (λ (s : Slot). s .bytes) q)
-
         within-round : (k : ℕ) × (k < round p) × Item-after k
         unfolding sends takes
         within-round = at (wait d)
@@ -128,7 +123,7 @@ module _ (p : Lines) (c : List Bool) (g : Good p) (count : length c ≡ length (
                 let u : ℕ = t + d in
                 let q : u ≡ first-beginning p (b .node) t = omega (arith, near) in
                 let begun = in-beginning p u is-slot (ap (begins p (b .node)) q ∙ beginning-begins p g b is-slot t) in
-                let x = pack-some p (b .bytes) u (pending p v (b .node)) r waits (λ s m. fits s (pending-in p v (b .node) s m)) in
+                let x = pack-some p (b .bytes) u (pending p v (b .node)) r waits (pending-fits p g v b is-slot) in
                 let m : In (x .0) (sends p v u) = in-each (takes p v u) begun (x .1) in
                 let m′ : In (x .0) (sends p (view-at p c u) u) = subst (λ (w : View). In (x .0) (sends p w u)) (sym (same-view u (omega arith) e)) m in
                 (d, omega (arith, near), (x .0, in-left (starts p (view-at p c u) u) m′, pending-item p v (b .node) (x .0 .row) (takes-in p v u b (x .0) (x .1))))

@@ -68,20 +68,22 @@ module _ (p : Lines) (c : List Bool) (log more : Log) (t t′ : ℕ)
   no-starts : starts p (view p c more t′) t′ ≡ []
   no-starts = ap (λ (v : View). starts p v t′) view-later ∙ no-members _ no-start
 
--- Let s be the state before tick t, and s′ the one after it. Where by t′ nothing more is over than by t, and no slot with an item
--- waiting begins at t′, the step at t′ changes nothing.
+-- Let s be the state before tick t, and s′ the one after it. Where by t′ nothing more is over than by t, no process starts at t′.
+pub idle-starts : (p : Lines) (c : List Bool) (t t′ : ℕ) (s s′ : State) → s′ ≡ step p (view p c (s .log) t) t s →
+    done-by p (s′ .log) t′ ≡ done-by p (s .log) t → starts p (view p c (s′ .log) t′) t′ ≡ []
+unfolding step
+idle-starts p c t t′ s s′ e same =
+    let v : View = view p c (s .log) t in
+    no-starts p c (s .log) (s′ .log) t t′
+    (λ x m. subst (λ (z : State). In x (z .log)) (sym e) (in-right (sends p v t ++ starts p v t) m))
+    (λ x m. subst (λ (z : State). In x (z .log)) (sym e) (in-left (s .log) (in-right (sends p v t) m))) same
+
+-- Where moreover no slot with an item waiting begins at t′, the step at t′ changes nothing.
 pub quiet : (p : Lines) (c : List Bool) (t t′ : ℕ) (s s′ : State) → s′ ≡ step p (view p c (s .log) t) t s →
     done-by p (s′ .log) t′ ≡ done-by p (s .log) t →
     ((b : Slot) → In b (beginning p t′) → pending p (view p c (s′ .log) t′) (b .node) ≡ []) →
     step p (view p c (s′ .log) t′) t′ s′ ≡ s′
-unfolding step
-quiet p c t t′ s s′ e same empty =
-    let v : View = view p c (s .log) t in
-    idle-step p (view p c (s′ .log) t′) t′ s′
-    (no-starts p c (s .log) (s′ .log) t t′
-    (λ x m. subst (λ (z : State). In x (z .log)) (sym e) (in-right (sends p v t ++ starts p v t) m))
-    (λ x m. subst (λ (z : State). In x (z .log)) (sym e) (in-left (s .log) (in-right (sends p v t) m))) same)
-    empty
+quiet p c t t′ s s′ e same empty = idle-step p (view p c (s′ .log) t′) t′ s′ (idle-starts p c t t′ s s′ e same) empty
 
 -- So the state stays over a stretch of such ticks: what a planner that goes from event to event needs.
 pub stays : (p : Lines) (c : List Bool) (t n : ℕ) →

@@ -7,9 +7,9 @@ use mathlib.Core.List.{List, [], _∷_, map, List·Memᴰ as In, List·Memᴰ·h
 use Prim.Native.Nat.{ℕ, suc, _+_, _-_, _*_, _/_, _%_, _≤_, _<_}
 use native.Mathlib.Nat.{mul-pos, mod-lt, div-add-mod', mul-add-mod-self-right, mod-eq-of-lt, mul-le-mul}
 use native.Mathlib.Omega.{arith}
-use lib.Dec.{eqb, leb}
+use lib.Dec.{eqb, leb, ltb}
 use lib.ListN.{length}
-use borrow.Author.Tests.{eq-eqb, eqb-true, leb-true, leb-false}
+use borrow.Author.Tests.{eq-eqb, eqb-true, leb-true, leb-false, ltb-true, ltb-false}
 use Rattle.lists.specs.Lists.{if_then_else_, any, sum, repeated}
 use Rattle.lists.proofs.Tests.{two, clash, neither}
 use Rattle.lists.proofs.Members.{in-any, in-map, keep-in, in-keep}
@@ -128,6 +128,21 @@ module _ (p : Lines) where
       at false false x y (there m) (here q) e r = clash (node-of q) y
       at false false x y (there m) (there n) e r = r m n (omega arith)
 
+  -- a slot that begins later in a round begins when the earlier one has ended
+  offset-apart : (n m : ℕ) (ss : List Slot) → offset-among p ss n < offset-among p ss m → offset-among p ss n + slot-ticks p (slot-among ss n) ≤ offset-among p ss m
+  unfolding offset-among slot-among
+  offset-apart n m [] l = absurd (omega arith)
+  offset-apart n m (s ∷ ss) l = at (eqb (s .node) n) (eqb (s .node) m) l (offset-apart n m ss)
+    where
+      at : (u v : Bool) →
+          (if u then 0 else slot-ticks p s + offset-among p ss n) < (if v then 0 else slot-ticks p s + offset-among p ss m) →
+          (offset-among p ss n < offset-among p ss m → offset-among p ss n + slot-ticks p (slot-among ss n) ≤ offset-among p ss m) →
+          (if u then 0 else slot-ticks p s + offset-among p ss n) + slot-ticks p (if u then s else slot-among ss n) ≤ (if v then 0 else slot-ticks p s + offset-among p ss m)
+      at true true l r = absurd (omega arith)
+      at true false l r = omega arith
+      at false true l r = absurd (omega arith)
+      at false false l r = let z = r (omega arith) in omega arith
+
   module _ (g : Good p) where
     pub slot-ticks-one : (s : Slot) → In s (p .slots) → 1 ≤ slot-ticks p s
     unfolding slot-ticks
@@ -182,6 +197,31 @@ module _ (p : Lines) where
     one-slot-a-tick a b m n t x y =
         let same : offset p (a .node) ≡ offset p (b .node) = sym (begins-leaves a m t x) ∙ begins-leaves b n t y in
         sym (slot-own a m) ∙ ap (slot-of p) (offset-differs a b (p .slots) slot-ticks-one m n same) ∙ slot-own b n
+
+    -- A slot that begins after another begins when that has ended.
+    pub slots-apart : (a b : Slot) → In a (p .slots) → In b (p .slots) → (t u : ℕ) → begins p (a .node) t ≡ true → begins p (b .node) u ≡ true → t < u →
+        t + slot-ticks p a ≤ u
+    unfolding offset slot-of
+    slots-apart a b m n t u x y l =
+        let R : ℕ = round p in
+        let own : slot-ticks p (slot-of p (a .node)) ≡ slot-ticks p a = ap (slot-ticks p) (slot-own a m) in
+        let lt : t % R ≡ offset p (a .node) = begins-leaves a m t x in
+        let lu : u % R ≡ offset p (b .node) = begins-leaves b n u y in
+        let dt : t / R * R + t % R ≡ t = div-add-mod' t R in
+        let du : u / R * R + u % R ≡ u = div-add-mod' u R in
+        at (two (ltb (t / R) (u / R))) (two (ltb (u / R) (t / R))) own lt lu dt du (offset-fits a (p .slots) m) (mod-lt u (let v = slot-ticks-one a m in let w = slot-in-round a m in omega arith))
+      where
+        at : (ltb (t / round p) (u / round p) ≡ true) ⊎ (ltb (t / round p) (u / round p) ≡ false) → (ltb (u / round p) (t / round p) ≡ true) ⊎ (ltb (u / round p) (t / round p) ≡ false) →
+            slot-ticks p (slot-of p (a .node)) ≡ slot-ticks p a → t % round p ≡ offset p (a .node) → u % round p ≡ offset p (b .node) →
+            t / round p * round p + t % round p ≡ t → u / round p * round p + u % round p ≡ u →
+            offset p (a .node) + slot-ticks p a ≤ round p → u % round p < round p → t + slot-ticks p a ≤ u
+        at (inl k) _ own lt lu dt du f s = let v : suc (t / round p) * round p ≤ u / round p * round p = mul-le-mul (ltb-true _ _ k) (omega arith) in omega arith
+        at (inr k) (inl j) own lt lu dt du f s = let v : suc (u / round p) * round p ≤ t / round p * round p = mul-le-mul (ltb-true _ _ j) (omega arith) in absurd (omega arith)
+        at (inr k) (inr j) own lt lu dt du f s =
+            let q : t / round p ≡ u / round p = (let v = ltb-false (t / round p) (u / round p) k in let w = ltb-false (u / round p) (t / round p) j in omega arith) in
+            let e : t / round p * round p ≡ u / round p * round p = ap (λ (z : ℕ). z * round p) q in
+            let v = offset-apart (a .node) (b .node) (p .slots) (omega arith) in
+            omega arith
 
 -- the slots that begin at a tick
 pub beginning-in : (p : Lines) (t : ℕ) {b : Slot} → In b (beginning p t) → In b (p .slots) × (begins p (b .node) t ≡ true)
