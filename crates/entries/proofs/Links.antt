@@ -1,0 +1,348 @@
+-- Where the arrays hold the logs of all combinations, the numbers of a row stand for the entries of the row in the model's table, and the words
+-- written are the words of that table.
+-- Assumes nothing.
+use mathlib.Core.Path.{_≡_, refl, sym, ap, _∙_, subst, subst₂}
+use mathlib.Core.Logic.{_⊎_, inl, inr}
+use mathlib.Core.Bool.{Bool, true, false, not, _&&_, _||_}
+use mathlib.Core.List.{List, [], _∷_, _++_, map, List·Memᴰ as In, List·Memᴰ·head as here}
+use Prim.Native.Nat.{ℕ, zero, suc, _+_, _-_, _*_, _^_, _≤_, _<_, max}
+use native.Mathlib.Omega.{arith}
+use lib.Bits.{bitAnd, and-le-l}
+use lib.Dec.{eqb, leb, ltb}
+use lib.ListN.{length, getD, take}
+use lib.Seq.{getD-take, getD-drop}
+use borrow.Author.Tests.{eqb-true, eqb-false, ne-eqb, le-leb, lt-leb, leb-true, leb-false, ltb-true, ltb-false}
+use Rattle.lists.specs.Lists.{if_then_else_, any, keep, each, below}
+use Rattle.lists.specs.Ordered.{put, put-all}
+use Rattle.lists.proofs.Tests.{two, or-false}
+use Rattle.lists.proofs.Members.{in-getD, in-each, in-below, keep-in}
+use Rattle.lists.proofs.Keep.{each-same, map-each}
+use Rattle.lists.proofs.Order.{in-put-all}
+use Rattle.lists.proofs.Places.{list-below}
+use Rattle.model.specs.Plan.{Lines}
+use Rattle.model.specs.Activity.{combinations}
+use Rattle.model.specs.Bus.{rows, condition-row, sender, row-node, row-bytes, slot-of}
+use Rattle.model.specs.Log.{Placed, Log, of-row, full-ticks, span, over, known}
+use Rattle.model.specs.Planning.{bound, planned}
+use Rattle.model.specs.Refusals.{nothing, plan-refusal}
+use Rattle.model.specs.Table.{Entry, known-bits, value-bits, entry-of, Planned, plans, made-entries, row-entries, key, one-of-two, result, entry-words}
+use Rattle.laws.proofs.Combinations.{combination-length}
+use Rattle.laws.proofs.Bound.{bound-small}
+use Rattle.laws.proofs.Good.{Good, good}
+use Rattle.laws.proofs.Progress.{over-by-bound}
+use Rattle.laws.proofs.Rows.{Kind, a-process, an-edge, a-condition, kind, sender-in, edge-bytes, condition-bytes}
+use Rattle.laws.proofs.Rules.{Kept}
+use Rattle.laws.proofs.Safety.{planning-keeps}
+use Rattle.laws.proofs.Slots.{slot-in}
+use Rattle.mask.specs.Masks.{under, mask-from}
+use Rattle.mask.proofs.Known.{known-built, values-built}
+use Rattle.mask.proofs.Numbered.{combinations-count, combination-number}
+use Rattle.readiness.specs.Reading.{within, came-by}
+use Rattle.readiness.specs.Holding.{Row, absent, stands}
+use Rattle.ascending.specs.Among.{multiple}
+use Rattle.ascending.proofs.Putting.{put-all-append}
+use Rattle.ascending.proofs.Multiples.{numbers-ascend}
+use Rattle.entries.specs.Numbers.{number, known-by, number-at, row-number, row-numbers, Readable}
+use Rattle.entries.specs.Words.{five, row-part, table, Listed}
+use Rattle.entries.specs.Logs.{entry-from, block, numbered, plan-of, Logs}
+use Rattle.entries.proofs.Gathering.{each-next, row-absent, row-taken-over, row-own}
+use Rattle.entries.proofs.Small.{numbers-join, known-small}
+use Rattle.entries.proofs.Writing.{table-length}
+use Rattle.entries.proofs.Keys.{entries-put, put-again, entry-made, number-of-entry, number-back}
+
+-- a test and another, over a list: the other over what passes the first
+any-keep : {A : Type 0} (f g : A → Bool) (xs : List A) → any (λ x. f x && g x) xs ≡ any g (keep f xs)
+any-keep f g [] = refl
+any-keep f g (x ∷ xs) = at (f x) (any-keep f g xs)
+  where
+    at : (b : Bool) → any (λ x. f x && g x) xs ≡ any g (keep f xs) → ((b && g x) || any (λ x. f x && g x) xs) ≡ any g (if b then (x ∷ keep f xs) else keep f xs)
+    at true r = ap (λ (z : Bool). g x || z) r
+    at false r = r
+
+leb-suc : (a b : ℕ) → leb (suc a) (suc b) ≡ leb a b
+leb-suc a b = at (two (leb a b))
+  where
+    at : (leb a b ≡ true) ⊎ (leb a b ≡ false) → leb (suc a) (suc b) ≡ leb a b
+    at (inl e) = le-leb (suc a) (suc b) (let l = leb-true a b e in omega arith) ∙ sym e
+    at (inr e) = lt-leb (suc a) (suc b) (let l = leb-false a b e in omega arith) ∙ sym e
+
+mask-same : (f g : ℕ → Bool) (a n : ℕ) → ((k : ℕ) → a ≤ k → k < a + n → f k ≡ g k) → mask-from f a n ≡ mask-from g a n
+mask-same f g a zero h = refl
+mask-same f g a (suc n) h =
+    let r = mask-same f g (suc a) n (λ k l m. h k (omega arith) (omega arith)) in
+    λ i. under (h a (omega arith) (omega arith) i) (r i)
+
+-- a row is over by a tick just where the array says so
+over-row : (p : Lines) (log : Log) (r come at t : ℕ) → Row p log r come at → over p (full-ticks p) log t r ≡ within come (suc t)
+unfolding over
+over-row p log r come at t (absent e z) =
+    any-keep (λ x. eqb (x .row) r) (λ x. leb (x .tick + span p (full-ticks p) r) t) log
+    ∙ ap (any (λ x. leb (x .tick + span p (full-ticks p) r) t)) e
+    ∙ ap (λ (x : ℕ). within x (suc t)) (sym z)
+over-row p log r come at t (stands s e z) =
+    any-keep (λ x. eqb (x .row) r) (λ x. leb (x .tick + span p (full-ticks p) r) t) log
+    ∙ ap (any (λ x. leb (x .tick + span p (full-ticks p) r) t)) e
+    ∙ or-false (leb (s + span p (full-ticks p) r) t)
+    ∙ sym (leb-suc (s + span p (full-ticks p) r) t)
+    ∙ ap (λ (b : Bool). not b && leb (suc (s + span p (full-ticks p) r)) (suc t)) (sym (ne-eqb (suc (s + span p (full-ticks p) r)) 0 (λ q. omega arith)))
+    ∙ ap (λ (x : ℕ). within x (suc t)) (sym z)
+
+block-at : (xs : List ℕ) (c r : ℕ) → r < 198 → getD (block xs c) r 0 ≡ getD xs (c * 198 + r) 0
+block-at xs c r l = getD-drop (c * 198) (take (c * 198 + 198) xs) r 0 ∙ getD-take (c * 198 + 198) xs (c * 198 + r) 0 (omega arith)
+
+put-one : (x : ℕ) (ys : List ℕ) → put-all (multiple 1) max (x ∷ []) ys ≡ put (multiple 1) max x ys
+unfolding put-all
+put-one x ys = refl
+
+put-nothing : (ys : List ℕ) → put-all (multiple 1) max [] ys ≡ ys
+unfolding put-all
+put-nothing ys = refl
+
+each-map : {A B C : Type 0} (f : B → List C) (g : A → B) (xs : List A) → each f (map g xs) ≡ each (λ x. f (g x)) xs
+each-map f g [] = refl
+each-map f g (x ∷ xs) = ap (λ (zs : List _). f (g x) ++ zs) (each-map f g xs)
+
+-- the words of entries
+words-append : (es fs : List Entry) → entry-words (es ++ fs) ≡ entry-words es ++ entry-words fs
+words-append [] fs = refl
+words-append (e ∷ es) fs = λ i. e .row ∷ e .known ∷ e .values ∷ e .tick ∷ e .place ∷ words-append es fs i
+
+words-row : (r : ℕ) (xs : List ℕ) → entry-words (map (entry-from r) xs) ≡ each (five r) xs
+words-row r [] = refl
+words-row r (x ∷ xs) = ap (λ (ws : List ℕ). five r x ++ ws) (words-row r xs)
+
+words-each : (f : ℕ → List ℕ) (rs : List ℕ) → entry-words (each (λ r. map (entry-from r) (f r)) rs) ≡ each (λ r. each (five r) (f r)) rs
+words-each f [] = refl
+words-each f (r ∷ rs) =
+    words-append (map (entry-from r) (f r)) (each (λ r. map (entry-from r) (f r)) rs) ∙ (λ i. words-row r (f r) i ++ words-each f rs i)
+
+words-five : (es : List Entry) → length (entry-words es) ≡ 5 * length es
+words-five [] = refl
+words-five (e ∷ es) = let r = words-five es in omega arith
+
+-- an item has at least one byte, in a slot of at most 64
+item-bytes : (p : Lines) → Good p → (r : ℕ) → length (p .processes) ≤ r → r < rows p → 1 ≤ row-bytes p r
+item-bytes p g r u l = at r (kind p r l) u
+  where
+    at : (r : ℕ) → Kind p r → length (p .processes) ≤ r → 1 ≤ row-bytes p r
+    at r (a-process i l) u = absurd (omega arith)
+    at r (an-edge e l) u = omega (arith, edge-bytes p e l, g .edge-one e l)
+    at r (a-condition k l) u = omega (arith, condition-bytes p k)
+
+slot-bytes : (p : Lines) → Good p → (r : ℕ) → r < rows p → slot-of p (row-node p r) .bytes ≤ 64
+unfolding row-node
+slot-bytes p g r l = g .slot-most _ (slot-in p g (sender p r) (sender-in p g r l))
+
+module _ (p : Lines) (passes : plan-refusal p ≡ nothing) (comes place since lasting : List ℕ) (L : Logs p comes place since lasting) where
+  abbrev tell : ℕ
+  tell = length (p .processes) + length (p .edges)
+
+  abbrev conditions# : ℕ
+  conditions# = length (p .conditions)
+
+  abbrev count : ℕ
+  count = 2 ^ conditions#
+
+  abbrev log-of : ℕ → Log
+  log-of c = planned p (numbered p c) .log
+
+  abbrev come : ℕ → ℕ → ℕ
+  come r c = getD comes (c * 198 + r) 0
+
+  few-rows : rows p ≤ 198
+  few-rows = let g = good p passes in omega (arith, g .few-processes, g .few-edges, g .few-conditions)
+
+  few-conditions : conditions# ≤ 6
+  few-conditions = good p passes .few-conditions
+
+  -- what the arrays hold of a row
+  row-at : (r c : ℕ) → r < 198 → c < count → Row p (log-of c) r (come r c) (getD place (c * 198 + r) 0)
+  row-at r c l h = subst₂ (Row p (log-of c) r) (block-at comes c r l) (block-at place c r l) (L .held c h .row r)
+
+  -- the masks of an entry's column
+  known-mask : (c t : ℕ) → c < count → known-bits (known p (numbered p c) (over p (full-ticks p) (log-of c) t)) ≡ known-by comes (c * 198 + tell) conditions# (suc t)
+  unfolding known-by came-by
+  known-mask c t h =
+      known-built p (numbered p c) (over p (full-ticks p) (log-of c) t)
+      ∙ mask-same (λ k. over p (full-ticks p) (log-of c) t (condition-row p k)) (λ k. came-by comes (suc t) (c * 198 + tell + k)) 0 conditions#
+      (λ k l m.
+      let b : condition-row p k < 198 = omega (arith, few-rows) in
+      over-row p (log-of c) (condition-row p k) _ _ t (row-at (condition-row p k) c b h)
+      ∙ ap (λ (x : ℕ). within (getD comes x 0) (suc t)) (omega arith))
+
+  value-mask : (c t : ℕ) → c < count →
+      value-bits (known p (numbered p c) (over p (full-ticks p) (log-of c) t)) ≡ bitAnd (known-by comes (c * 198 + tell) conditions# (suc t)) c
+  value-mask c t h =
+      values-built p (numbered p c) (over p (full-ticks p) (log-of c) t)
+      ∙ (λ i. bitAnd (known-mask c t h i) (combination-number conditions# c h i))
+
+  -- a row that stands in a log is over by the bound, and an item lies in its frame
+  module _ (r c t at : ℕ) (l : r < rows p) (h : c < count) (e : of-row (log-of c) r ≡ record { row = r; tick = t; place = at } ∷ []) where
+    abbrev item : Placed
+    item = record { row = r; tick = t; place = at }
+
+    width : length (numbered p c) ≡ conditions#
+    width = combination-length p (numbered p c) (in-getD (combinations p) c [] (omega (arith, combinations-count conditions#)))
+
+    member : In item (log-of c)
+    member = keep-in (λ x. eqb (x .row) r) (log-of c) (subst (In item) (sym e) (here refl)) .0
+
+    over-soon : suc (t + span p (full-ticks p) r) ≤ 1000000000
+    over-soon = omega (arith, over-by-bound p (numbered p c) (good p passes) width item member, bound-small p (good p passes))
+
+    item-placed : length (p .processes) ≤ r → at < 64
+    unfolding planned
+    item-placed u =
+        let k : Kept p (numbered p c) (log-of c) = planning-keeps p (numbered p c) passes width (bound p) in
+        omega (arith, k .in-frame item (record { member = member; high = u }), item-bytes p (good p passes) r u l, slot-bytes p (good p passes) r l)
+
+  -- The arrays can be read.
+  pub readable : (r c : ℕ) → r < rows p → c < 2 ^ length (p .conditions) → Readable comes place lasting r c
+  readable r c l h = from (row-at r c (omega (arith, few-rows)) h) refl
+    where
+      from : {at : ℕ} → Row p (log-of c) r (come r c) at → at ≡ getD place (c * 198 + r) 0 → Readable comes place lasting r c
+      from (absent e z) q = record { soon = omega arith; lasts = λ n. absurd (n z); placed = λ n. absurd (n z) }
+      from {at} (stands t e z) q =
+          record {
+            soon = omega (arith, z, over-soon r c t at l h e);
+            lasts = λ n. omega (arith, z, L .spans r l);
+            placed = λ n. small (two (ltb r (length (p .processes))));
+          }
+        where
+          small : (ltb r (length (p .processes)) ≡ true) ⊎ (ltb r (length (p .processes)) ≡ false) → getD place (c * 198 + r) 0 < 64
+          small (inl u) = omega (arith, sym (block-at place c r (omega (arith, few-rows))) ∙ L .held c h .no-place r (ltb-true _ _ u))
+          small (inr u) = omega (arith, item-placed r c t at l h e (ltb-false _ _ u))
+
+  -- the numbers that combinations give for a row, with none taken over, and the entries that they make
+  abbrev every : ℕ → ℕ → List ℕ
+  every r c = row-number comes place tell conditions# [] lasting r c
+
+  abbrev own : ℕ → ℕ → List ℕ
+  own r c = row-number comes place tell conditions# since lasting r c
+
+  number-link : (r c t : ℕ) → r < rows p → c < count → getD place (c * 198 + r) 0 < 64 →
+      entry-from r (number-at comes place tell conditions# c r (suc t))
+      ≡ entry-of p (numbered p c) (log-of c) (record { row = r; tick = t; place = getD place (c * 198 + r) 0 })
+  unfolding number-at entry-of
+  number-link r c t l h small =
+      let m : ℕ = known-by comes (c * 198 + tell) conditions# (suc t) in
+      let k = known-small comes (c * 198 + tell) conditions# (suc t) few-conditions in
+      let at : ℕ = getD place (c * 198 + r) 0 in
+      let u : suc t - 1 ≡ t = omega arith in
+      ap (λ (x : ℕ). entry-from r (number x m (bitAnd m c) at)) u
+      ∙ entry-made r t m (bitAnd m c) at k (omega (arith, and-le-l m c)) small
+      ∙ (λ i. record { row = r; known = sym (known-mask c t h) i; values = sym (value-mask c t h) i; tick = t; place = at })
+
+  every-link : (r c : ℕ) → r < rows p → c < count → map (entry-from r) (every r c) ≡ made-entries p r (plan-of p c)
+  unfolding made-entries
+  every-link r c l h = from (row-at r c (omega (arith, few-rows)) h)
+    where
+      from : Row p (log-of c) r (come r c) (getD place (c * 198 + r) 0) → map (entry-from r) (every r c) ≡ map (entry-of p (numbered p c) (log-of c)) (of-row (log-of c) r)
+      from (absent e z) = ap (map (entry-from r)) (row-absent comes place tell conditions# [] lasting r c z) ∙ sym (ap (map (entry-of p (numbered p c) (log-of c))) e)
+      from (stands t e z) =
+          let n : come r c ≡ 0 → ⊥ = λ q. omega (arith, z, q) in
+          let u : come r c - getD lasting r 0 ≡ suc t = omega (arith, z, L .spans r l) in
+          ap (map (entry-from r)) (row-own comes place tell conditions# [] lasting r c n (omega arith) refl)
+          ∙ ap (λ (x : ℕ). entry-from r (number-at comes place tell conditions# c r x) ∷ []) u
+          ∙ ap (λ (x : Entry). x ∷ []) (number-link r c t l h (readable r c l h .placed n))
+          ∙ sym (ap (map (entry-of p (numbered p c) (log-of c))) e)
+
+  back-again : (r : ℕ) (xs : List ℕ) → map number-of-entry (map (entry-from r) xs) ≡ xs
+  back-again r [] = refl
+  back-again r (x ∷ xs) = λ i. number-back r x i ∷ back-again r xs i
+
+  -- combinations with the same entry give the same number
+  every-same : (r c d : ℕ) → r < rows p → c < count → d < count → made-entries p r (plan-of p c) ≡ made-entries p r (plan-of p d) → every r c ≡ every r d
+  every-same r c d l h k e =
+      sym (back-again r (every r c)) ∙ ap (map number-of-entry) (every-link r c l h ∙ e ∙ sym (every-link r d l k)) ∙ back-again r (every r d)
+
+  -- A number taken over stands there already.
+  abbrev ordered : (ℕ → List ℕ) → ℕ → List ℕ
+  ordered f n = put-all (multiple 1) max (each f (below n)) []
+
+  ordered-suc : (f : ℕ → List ℕ) (n : ℕ) → ordered f (n + 1) ≡ put-all (multiple 1) max (f n) (ordered f n)
+  ordered-suc f n = ap (λ (xs : List ℕ). put-all (multiple 1) max xs []) (each-next f n) ∙ put-all-append (multiple 1) max (each f (below n)) (f n) []
+
+  own-or-there : (r c : ℕ) → r < rows p → c < count → (own r c ≡ every r c) ⊎ ((own r c ≡ []) × ((x : ℕ) × (every r c ≡ x ∷ []) × In x (ordered (every r) c)))
+  own-or-there r c l h = at (two (eqb (come r c) 0)) (two (ltb (come r c - getD lasting r 0) (getD since c 0)))
+    where
+      at : (eqb (come r c) 0 ≡ true) ⊎ (eqb (come r c) 0 ≡ false) →
+          (ltb (come r c - getD lasting r 0) (getD since c 0) ≡ true) ⊎ (ltb (come r c - getD lasting r 0) (getD since c 0) ≡ false) →
+          (own r c ≡ every r c) ⊎ ((own r c ≡ []) × ((x : ℕ) × (every r c ≡ x ∷ []) × In x (ordered (every r) c)))
+      at (inl z) v =
+          let q = eqb-true (come r c) 0 z in
+          inl (row-absent comes place tell conditions# since lasting r c q ∙ sym (row-absent comes place tell conditions# [] lasting r c q))
+      at (inr z) (inl v) =
+          let n = eqb-false (come r c) 0 z in
+          let u = ltb-true (come r c - getD lasting r 0) (getD since c 0) v in
+          let d = L .taken-over r c l h n u in
+          let x : ℕ = number-at comes place tell conditions# c r (come r c - getD lasting r 0) in
+          let e : every r c ≡ x ∷ [] = row-own comes place tell conditions# [] lasting r c n (omega arith) refl in
+          let m : In x (every r (d .0)) = subst (In x) (sym e ∙ every-same r c (d .0) l h (omega (arith, d .1)) (d .2)) (here refl) in
+          let w = in-put-all (multiple 1) numbers-join x (each (every r) (below c)) (λ y k. tt) (in-each (every r) (in-below c (d .0) (d .1)) m) in
+          inr (row-taken-over comes place tell conditions# since lasting r c n u, (x, e, subst (λ (z : ℕ). In z (ordered (every r) c)) (sym (w .2)) (w .1)))
+      at (inr z) (inr v) =
+          let n = eqb-false (come r c) 0 z in
+          let u = ltb-false (come r c - getD lasting r 0) (getD since c 0) v in
+          inl (row-own comes place tell conditions# since lasting r c n u refl ∙ sym (row-own comes place tell conditions# [] lasting r c n (omega arith) refl))
+
+  own-every : (r n : ℕ) → r < rows p → n ≤ count → ordered (own r) n ≡ ordered (every r) n
+  own-every r zero l h = refl
+  own-every r (suc n) l h =
+      let s : n + 1 ≡ suc n = omega arith in
+      ap (ordered (own r)) (sym s) ∙ ordered-suc (own r) n ∙ ap (put-all (multiple 1) max (own r n)) (own-every r n l (omega arith))
+      ∙ at (own-or-there r n l (omega arith))
+      ∙ sym (ordered-suc (every r) n) ∙ ap (ordered (every r)) s
+    where
+      at : (own r n ≡ every r n) ⊎ ((own r n ≡ []) × ((x : ℕ) × (every r n ≡ x ∷ []) × In x (ordered (every r) n))) →
+          put-all (multiple 1) max (own r n) (ordered (every r) n) ≡ put-all (multiple 1) max (every r n) (ordered (every r) n)
+      at (inl e) = ap (λ (xs : List ℕ). put-all (multiple 1) max xs (ordered (every r) n)) e
+      at (inr e) =
+          ap (λ (xs : List ℕ). put-all (multiple 1) max xs (ordered (every r) n)) (e .0)
+          ∙ put-nothing (ordered (every r) n)
+          ∙ sym (put-one (e .1 .0) (ordered (every r) n) ∙ put-again (e .1 .0) (ordered (every r) n) (numbers-ascend 1 (each (every r) (below n)) [] tt) (e .1 .2))
+          ∙ ap (λ (xs : List ℕ). put-all (multiple 1) max xs (ordered (every r) n)) (sym (e .1 .1))
+
+  -- The entries of a row are what the numbers of the row stand for.
+  each-plans : (r : ℕ) → each (made-entries p r) (plans p) ≡ each (λ c. made-entries p r (plan-of p c)) (below count)
+  unfolding plans
+  each-plans r =
+      let mk : List Bool → Planned = λ c. record { combination = c; state = planned p c } in
+      each-map (made-entries p r) mk (combinations p)
+      ∙ ap (each (λ c. made-entries p r (mk c))) (sym (list-below [] (combinations p) count (combinations-count conditions#)))
+      ∙ each-map (λ c. made-entries p r (mk c)) (λ c. numbered p c) (below count)
+
+  pub row-link : (r : ℕ) → r < rows p →
+      row-entries p (plans p) r
+      ≡ map (entry-from r) (row-numbers comes place (length (p .processes) + length (p .edges)) (length (p .conditions)) since lasting (2 ^ length (p .conditions)) r)
+  unfolding row-entries row-numbers
+  row-link r l =
+      ap (λ (es : List Entry). put-all key one-of-two es []) (
+      each-plans r
+      ∙ each-same (λ c. made-entries p r (plan-of p c)) (λ c. map (entry-from r) (every r c)) 0 count (λ c h. sym (every-link r c l (omega arith)))
+      ∙ sym (map-each (entry-from r) (every r) (below count))
+      )
+      ∙ sym (entries-put r (each (every r) (below count)))
+      ∙ ap (map (entry-from r)) (sym (own-every r count l (omega arith)))
+
+  pub entries-link : result p .entries
+      ≡ each (λ r. map (entry-from r) (row-numbers comes place (length (p .processes) + length (p .edges)) (length (p .conditions)) since lasting (2 ^ length (p .conditions)) r)) (below (rows p))
+  unfolding result
+  entries-link = each-same (row-entries p (plans p)) _ 0 (rows p) (λ r h. row-link r (omega arith))
+
+  -- The words written are the words of the table, five to an entry.
+  module _ (list ends : List ℕ) (n : ℕ)
+      (listed : Listed (row-numbers comes place (length (p .processes) + length (p .edges)) (length (p .conditions)) since lasting (2 ^ length (p .conditions))) list ends (rows p) n) where
+    pub words-link : entry-words (result p .entries) ≡ table list ends (rows p)
+    unfolding table
+    words-link =
+        ap entry-words entries-link
+        ∙ words-each (λ r. row-numbers comes place tell conditions# since lasting count r) (below (rows p))
+        ∙ each-same (λ r. each (five r) (row-numbers comes place tell conditions# since lasting count r)) (λ r. each (five r) (row-part list ends r)) 0 (rows p)
+        (λ r h. ap (each (five r)) (sym (listed .parts r (omega arith))))
+
+    pub words-count : length (entry-words (result p .entries)) ≡ 5 * n
+    words-count = ap length words-link ∙ table-length list ends (rows p) (listed .laid) ∙ ap (λ (k : ℕ). 5 * k) (listed .last)
+
+    pub entries-count : length (result p .entries) ≡ n
+    entries-count = omega (arith, words-count, words-five (result p .entries))

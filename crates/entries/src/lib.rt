@@ -1,0 +1,203 @@
+// The entries of a table, from the logs of all combinations: row by row as numbers in order, each once, and then as words.
+use ascending::put;
+use mask::with_bit;
+use readiness::came;
+ghost use mathlib.Core.Path.{_≡_};
+ghost use Prim.Native.Nat.{ℕ, max, _+_, _*_, _^_, _<_, _≤_};
+ghost use lib.ListN.{getD, length};
+ghost use lib.Seq.{sets, slice};
+ghost use Rattle.lists.specs.Lists.{each};
+ghost use Rattle.lists.specs.Front.{front};
+ghost use Rattle.lists.specs.Ordered.{put-all};
+ghost use Rattle.lists.proofs.Order.{Ascending};
+ghost use Rattle.ascending.specs.Among.{multiple};
+ghost use Rattle.entries.specs.Numbers.{number, known-by, number-at, row-number, row-numbers, Readable, Stands};
+ghost use Rattle.entries.specs.Words.{five, table, Laid, Listed};
+
+// The mask of the conditions known by clock u, where the rows of the conditions start at `base`: condition 0 the lowest bit.
+fn known(comes: &[u32; 12672], base: usize, conditions: usize, u: u32) -> u32
+    requires { ⌜ (base + conditions ≤ 12672) × (conditions ≤ 6) ⌝ }
+    ensures { λ r. ⌜ (r ≡ known-by (now (comes .entry)) base conditions u) × (r < 64) ⌝ }
+{
+    let mut mask: u32 = 0;
+    let mut k = conditions;
+    while 0 < k {
+        k -= 1;
+        mask = with_bit(mask, came(comes[base + k], u));
+    }
+    mask
+}
+
+// An entry of a row as one number: in the order of these numbers, entries stand by tick, known, values, place.
+fn packed(tick: u32, known: u32, values: u32, place: u32) -> u64
+    requires { ⌜ (tick < 1000000000) × (known < 64) × (values < 64) × (place < 64) ⌝ }
+    ensures { λ r. ⌜ r ≡ number tick known values place ⌝ }
+{
+    ((tick as u64 * 64 + known as u64) * 64 + values as u64) * 64 + place as u64
+}
+
+// The number of row r's entry in combination c, where the row is placed at clock u.
+fn number_at<'a>(
+    comes: &'a [u32; 12672],
+    place: &'a [u32; 12672],
+    tell: usize,
+    conditions: usize,
+    c: usize,
+    r: usize,
+    u: u32,
+) -> u64
+    requires { ⌜ (tell + conditions ≤ 198) × (conditions ≤ 6) × (c < 64) × (r < 198) ⌝ ∗ ⌜ (0 < u) × (u ≤ 1000000000) × (getD (now place) (c * 198 + r) 0 < 64) ⌝ }
+    ensures { λ x. ⌜ (x ≡ number-at (now (comes .entry)) (now (place .entry)) tell conditions c r u) × (x < 2 ^ 48) ⌝ }
+{
+    let heard = known(comes, c * 198 + tell, conditions, u);
+    let bits = c as u32;
+    let values = heard & bits;
+    packed(u - 1, heard, values, place[c * 198 + r])
+}
+
+// Puts the number that combination c gives for row r, if it gives one, among those of list[a .. b], which ascend. The new end.
+fn row_entry<'a>(
+    comes: &'a [u32; 12672],
+    place: &'a [u32; 12672],
+    since: &'a [u32; 64],
+    span: &'a [u32; 198],
+    tell: usize,
+    conditions: usize,
+    c: usize,
+    r: usize,
+    list: &mut [u64; 12672],
+    a: usize,
+    b: usize,
+) -> usize
+    requires { ⌜ (tell + conditions ≤ 198) × (conditions ≤ 6) × (c < 64) × (r < 198) ⌝ ∗ ⌜ Readable (now comes) (now place) (now span) r c ⌝ ∗ ⌜ (a ≤ b) × (b < 12672) × (length (now list) ≡ 12672) × Ascending (multiple 1) (slice a b (now list)) ⌝ }
+    ensures { λ end. ⌜ Stands (now (list .entry)) (now (list .exit)) a end (put-all (multiple 1) max (row-number (now (comes .entry)) (now (place .entry)) tell conditions (now (since .entry)) (now (span .entry)) r c) (slice a b (now (list .entry)))) ⌝ }
+{
+    let x = comes[c * 198 + r];
+    if x == 0 {
+        return b;
+    }
+    let u = x - span[r];
+    if u < since[c] {
+        return b;
+    }
+    let y = number_at(comes, place, tell, conditions, c, r, u);
+    put(list, a, b, y, 1, y)
+}
+
+// Puts the numbers of row r's entries in all combinations into `list` from place a on: in order, each once. The place behind them.
+fn row_entries<'a>(
+    comes: &'a [u32; 12672],
+    place: &'a [u32; 12672],
+    since: &'a [u32; 64],
+    span: &'a [u32; 198],
+    combinations: usize,
+    tell: usize,
+    conditions: usize,
+    r: usize,
+    list: &mut [u64; 12672],
+    a: usize,
+) -> usize
+    requires { ⌜ (tell + conditions ≤ 198) × (conditions ≤ 6) × (combinations ≤ 64) × (r < 198) ⌝ ∗ ⌜ ((c : ℕ) → c < combinations → Readable (now comes) (now place) (now span) r c) ⌝ ∗ ⌜ (a + 64 ≤ 12672) × (length (now list) ≡ 12672) ⌝ }
+    ensures { λ end. ⌜ Stands (now (list .entry)) (now (list .exit)) a end (row-numbers (now (comes .entry)) (now (place .entry)) tell conditions (now (since .entry)) (now (span .entry)) combinations r) ⌝ }
+{
+    let mut end = a;
+    let mut c: usize = 0;
+    while c < combinations {
+        end = row_entry(
+            comes,
+            place,
+            since,
+            span,
+            tell,
+            conditions,
+            c,
+            r,
+            list,
+            a,
+            end,
+        );
+        c += 1;
+    }
+    end
+}
+
+// The entries of all rows as numbers: row r's stand in `list` from place ends[r] up to place ends[r + 1], in order, each once. How many
+// there are in all.
+pub fn all_entries<'a>(
+    comes: &'a [u32; 12672],
+    place: &'a [u32; 12672],
+    since: &'a [u32; 64],
+    span: &'a [u32; 198],
+    combinations: usize,
+    tell: usize,
+    conditions: usize,
+    rows: usize,
+    list: &mut [u64; 12672],
+    ends: &mut [u32; 199],
+) -> usize
+    requires { ⌜ (tell + conditions ≤ 198) × (conditions ≤ 6) × (combinations ≤ 64) × (rows ≤ 198) ⌝ ∗ ⌜ ((r c : ℕ) → r < rows → c < combinations → Readable (now comes) (now place) (now span) r c) ⌝ ∗ ⌜ (length (now list) ≡ 12672) × (length (now ends) ≡ 199) ⌝ }
+    ensures { λ count. ⌜ Listed (row-numbers (now (comes .entry)) (now (place .entry)) tell conditions (now (since .entry)) (now (span .entry)) combinations) (now (list .exit)) (now (ends .exit)) rows count ⌝ }
+{
+    let mut end: usize = 0;
+    let mut r: usize = 0;
+    while r < rows {
+        ends[r] = end as u32;
+        end = row_entries(
+            comes,
+            place,
+            since,
+            span,
+            combinations,
+            tell,
+            conditions,
+            r,
+            list,
+            end,
+        );
+        r += 1;
+    }
+    ends[r] = end as u32;
+    end
+}
+
+// Writes the five words of an entry from place `at` on.
+fn write_entry(words: &mut [u32], at: usize, row: u32, x: u64)
+    requires { ⌜ (at + 5 ≤ length (now words)) × (x < 2 ^ 48) ⌝ }
+    ensures { λ r. ⌜ now (words .exit) ≡ sets (now (words .entry)) at (five row x) ⌝ }
+{
+    words[at] = row;
+    words[at + 1] = (x / 4096 % 64) as u32;
+    words[at + 2] = (x / 64 % 64) as u32;
+    words[at + 3] = (x / 262144) as u32;
+    words[at + 4] = (x % 64) as u32;
+}
+
+// Writes the words of the entries in list[a .. b], all of one row, each entry at five times its place.
+fn write_row(list: &[u64; 12672], a: usize, b: usize, row: u32, words: &mut [u32])
+    requires { ⌜ (b ≤ 12672) × (length (now list) ≡ 12672) × (5 * b ≤ length (now words)) ⌝ ∗ ⌜ ((i : ℕ) → i < b → getD (now list) i 0 < 2 ^ 48) ⌝ }
+    ensures { λ r. ⌜ now (words .exit) ≡ sets (now (words .entry)) (5 * a) (each (five row) (slice a b (now (list .entry)))) ⌝ }
+{
+    let mut i = a;
+    while i < b {
+        write_entry(words, 5 * i, row, list[i]);
+        i += 1;
+    }
+}
+
+// Writes the entries of all rows as words to the front of `words`, five to an entry.
+pub fn write<'a>(list: &'a [u64; 12672], ends: &'a [u32; 199], rows: usize, words: &mut [u32])
+    requires { ⌜ (rows ≤ 198) × Laid (now list) (now ends) rows × (5 * getD (now ends) rows 0 ≤ length (now words)) ⌝ }
+    ensures { λ r. ⌜ now (words .exit) ≡ front (table (now (list .entry)) (now (ends .entry)) rows) (now (words .entry)) ⌝ }
+{
+    let mut r: usize = 0;
+    while r < rows {
+        write_row(
+            list,
+            ends[r] as usize,
+            ends[r + 1] as usize,
+            r as u32,
+            words,
+        );
+        r += 1;
+    }
+}

@@ -1,0 +1,109 @@
+// The frame list: the frames that the entries of a table are sent in, one for each tick, with the greatest last used byte.
+use ascending::put;
+ghost use mathlib.Core.Path.{_≡_};
+ghost use mathlib.Core.List.{map};
+ghost use Prim.Native.Nat.{ℕ, _+_, _-_, _*_, _/_, _<_, _≤_};
+ghost use lib.ListN.{getD, length, take};
+ghost use lib.Seq.{slice};
+ghost use Rattle.lists.specs.Front.{front};
+ghost use Rattle.lists.proofs.Order.{Ascending};
+ghost use Rattle.ascending.specs.Among.{multiple, Added};
+ghost use Rattle.frames.specs.Packed.{entry-frame, Collected, Rows, packed-frames, packed-words};
+
+fn wide(x: u32) -> usize
+    ensures { λ r. ⌜ r ≡ x ⌝ }
+{
+    x as usize
+}
+
+fn long(x: u32) -> u64
+    ensures { λ r. ⌜ r ≡ x ⌝ }
+{
+    x as u64
+}
+
+fn word(x: u64) -> u32
+    requires { ⌜ x < 4294967296 ⌝ }
+    ensures { λ r. ⌜ r ≡ x ⌝ }
+{
+    x as u32
+}
+
+// The number of the frame of an entry: its tick, its node, and its last used byte counted from 1.
+fn frame(x: u64, node: u32, bytes: u32) -> u64
+    ensures { λ r. ⌜ r ≡ entry-frame node bytes x ⌝ }
+{
+    x / 262144 * 1024 + long(node) * 128 + (x % 64 + long(bytes))
+}
+
+// Puts the frame of an entry among the first n frames of `out`.
+fn add(x: u64, node: u32, bytes: u32, out: &mut [u64; 12672], n: usize) -> usize
+    requires { ⌜ (n < 12672) × (length (now out) ≡ 12672) × Ascending (multiple 1024) (take n (now out)) ⌝ }
+    ensures { λ r. ⌜ Added 1024 (entry-frame node bytes x) (now (out .entry)) (now (out .exit)) 0 n r ⌝ }
+{
+    let y = frame(x, node, bytes);
+    put(out, 0, n, y / 1024 * 1024, 1024, y)
+}
+
+// Puts the frames of the entries list[from .. to], which are of one row, among the first n frames of `out`.
+fn collect_row(
+    list: &[u64; 12672],
+    from: usize,
+    to: usize,
+    node: u32,
+    bytes: u32,
+    out: &mut [u64; 12672],
+    n: usize,
+) -> usize
+    requires { ⌜ (from ≤ to) × (to ≤ 12672) × (n + (to - from) ≤ 12672) × (length (now list) ≡ 12672) × (length (now out) ≡ 12672) × Ascending (multiple 1024) (take n (now out)) ⌝ }
+    ensures { λ r. ⌜ Collected (map (entry-frame node bytes) (slice from to (now (list .entry)))) (take n (now (out .entry))) (now (out .exit)) (n + (to - from)) r ⌝ }
+{
+    let mut m = n;
+    let mut i = from;
+    while i < to {
+        m = add(list[i], node, bytes, out, m);
+        i += 1;
+    }
+    m
+}
+
+// The frames of the entries of rows `processes` up to `rows`, by ascending ticks, at the front of `out`; how many there are.
+pub fn collect<'a>(
+    list: &'a [u64; 12672],
+    ends: &'a [u32; 199],
+    processes: usize,
+    rows: usize,
+    node: &'a [u32; 198],
+    bytes: &'a [u32; 198],
+    out: &mut [u64; 12672],
+) -> usize
+    requires { ⌜ Rows (now list) (now ends) processes rows × (length (now out) ≡ 12672) ⌝ }
+    ensures { λ r. ⌜ (take r (now (out .exit)) ≡ packed-frames (now (list .entry)) (now (ends .entry)) (now (node .entry)) (now (bytes .entry)) processes rows) × (r ≤ getD (now (ends .entry)) rows 0) × (length (now (out .exit)) ≡ 12672) ⌝ }
+{
+    let mut n: usize = 0;
+    let mut q = processes;
+    while q < rows {
+        let from = wide(ends[q]);
+        let to = wide(ends[q + 1]);
+        n = collect_row(list, from, to, node[q], bytes[q], out, n);
+        q += 1;
+    }
+    n
+}
+
+// Writes the first n frames of `list` as words, three each, to the front of `words`.
+pub fn write(list: &[u64; 12672], n: usize, words: &mut [u32])
+    requires { ⌜ (n ≤ 12672) × (length (now list) ≡ 12672) × (3 * n ≤ length (now words)) × ((i : ℕ) → i < n → getD (now list) i 0 < 4398046511104) ⌝ }
+    ensures { λ r. ⌜ now (words .exit) ≡ front (packed-words (take n (now (list .entry)))) (now (words .entry)) ⌝ }
+{
+    let mut i: usize = 0;
+    let mut k: usize = 0;
+    while i < n {
+        let y = list[i];
+        words[k] = word(y / 1024);
+        words[k + 1] = word(y % 1024 / 128);
+        words[k + 2] = word(y % 128);
+        k += 3;
+        i += 1;
+    }
+}
