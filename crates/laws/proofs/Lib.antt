@@ -20,6 +20,8 @@
 -- Planning comes to an end
 --   Potential, Frozen, Progress   what is left to do falls, and where nothing is left everything due is placed: `everything-over`
 --   Bound           `delay-within` document 01's bound, `planning-ends` there, and the bound is a tick that a table can hold
+--   Sharing         the plans of two combinations that differ in one condition are the same until its value arrives, and what was placed by then can be read
+--                   off the finished plan
 --
 -- Sound tables
 --   Columns         columns, bits and what is heard
@@ -54,6 +56,7 @@ pub mod Potential
 pub mod Frozen
 pub mod Progress
 pub mod Bound
+pub mod Sharing
 pub mod Columns
 pub mod Combinations
 pub mod Lawful

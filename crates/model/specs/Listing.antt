@@ -7,8 +7,8 @@ use lib.Dec.{eqb, ltb}
 use Rattle.lists.specs.Lists.{if_then_else_, each, sum}
 use Rattle.model.specs.Plan.{Lines, conditions}
 use Rattle.model.specs.Bus.{rows, is-process, is-edge, row-edge, row-condition}
-use Rattle.model.specs.Table.{Entry, Frame, Answer, turned-down, made, entries-of, frames-of}
-use Rattle.model.specs.Text.{text, decimal, field, Written, unless-refused, fitting}
+use Rattle.model.specs.Table.{Entry, Frame, Answer, turned-down, made, entries-of, frames-of, plan-answer}
+use Rattle.model.specs.Text.{text, decimal, field, Reading, reads, not-read, Written, unless-refused, fitting}
 
 -- "conditions in a `when` are the plan's too and ascend strictly"
 unfoldable pub bit : ℕ → ℕ → Bool
@@ -54,6 +54,11 @@ words-listing p delay count table fs = listing p delay (count ∷ []) (entries-o
 unfoldable pub printed : Lines → Answer → List ℕ
 printed p (turned-down n) = refused-line n
 printed p (made r) = listing p (r .delay) (r .passed) (r .entries) (r .frames)
+
+-- "the planning program, reading standard input and lending 3,000 entries and 2,000 frames, prints", by what its input reads as
+unfoldable pub program-prints : Reading → List ℕ
+program-prints (not-read n) = refused-line n
+program-prints (reads p) = printed p (plan-answer p 15000 6000)
 
 -- the listing put into lent bytes
 unfoldable pub write-listing : Lines → Answer → ℕ → Written

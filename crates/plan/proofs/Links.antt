@@ -51,12 +51,12 @@ few p h =
     }
 
 -- the kind and the condition of a `when`
-kind-of : When → ℕ
+unfoldable pub kind-of : When → ℕ
 kind-of always = 0
 kind-of (on true k) = 1
 kind-of (on false k) = 2
 
-condition-of : When → ℕ
+unfoldable pub condition-of : When → ℕ
 condition-of always = 0
 condition-of (on v k) = k
 
@@ -102,7 +102,7 @@ module _ (p : Plan) where
   unfolding lines
   processes-length = counted-length process-of memory.no-process (p .processes) (p .process)
 
-  conditions-length : length (lines p .conditions) ≡ p .conditions
+  pub conditions-length : length (lines p .conditions) ≡ p .conditions
   unfolding lines
   conditions-length = counted-length (λ i. i) 0 (p .conditions) (p .condition)
 
@@ -116,7 +116,7 @@ module _ (p : Plan) where
   counts-same =
       sym (λ j. outside 1 8 (slots-length j) || outside 1 64 (processes-length j) || ltb 6 (conditions-length j) || ltb 128 (edges-length j))
 
-  decider-at : (k : ℕ) → k < p .conditions → at (p .condition) k ≡ decider (lines p) k
+  pub decider-at : (k : ℕ) → k < p .conditions → at (p .condition) k ≡ decider (lines p) k
   unfolding lines
   decider-at k l = sym (counted-at (λ i. i) 0 (p .conditions) (p .condition) k 0 l)
 
@@ -160,16 +160,16 @@ module _ (p : Plan) where
     unfolding lines edges-table
     edge-to i = column edge-of no-edge (p .edges) (p .edge) (λ e. e .to) 128 _ (λ k. refl) refl (f .edges) i
 
-    edge-bytes : (i : ℕ) → at (edges-table p .bytes) i ≡ edge (lines p) i .bytes
+    pub edge-bytes : (i : ℕ) → at (edges-table p .bytes) i ≡ edge (lines p) i .bytes
     unfolding lines edges-table
     edge-bytes i = column edge-of no-edge (p .edges) (p .edge) (λ e. e .bytes) 128 _ (λ k. refl) refl (f .edges) i
 
-    edge-kind : (i : ℕ) → at (edges-table p .kind) i ≡ kind-of (edge (lines p) i .when)
+    pub edge-kind : (i : ℕ) → at (edges-table p .kind) i ≡ kind-of (edge (lines p) i .when)
     unfolding lines edges-table kind-of
     edge-kind i =
         column edge-of no-edge (p .edges) (p .edge) (λ e. kind-of (e .when)) 128 _ (λ k. same-kind (getD (p .edge) k no-edge .when)) refl (f .edges) i
 
-    edge-condition : (i : ℕ) → at (edges-table p .condition) i ≡ condition-of (edge (lines p) i .when)
+    pub edge-condition : (i : ℕ) → at (edges-table p .condition) i ≡ condition-of (edge (lines p) i .when)
     unfolding lines edges-table condition-of
     edge-condition i =
         column edge-of no-edge (p .edges) (p .edge) (λ e. condition-of (e .when)) 128 _ (λ k. same-condition (getD (p .edge) k no-edge .when)) refl (f .edges) i

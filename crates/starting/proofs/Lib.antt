@@ -6,4 +6,3 @@ pub mod Found
 pub mod Rows
 pub mod Ends
 pub mod Links
-pub mod Turns

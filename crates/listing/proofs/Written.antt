@@ -1,0 +1,35 @@
+-- What is answered, and what the lent bytes hold, where a text needs more bytes than lent, and where it is stored.
+-- Assumes nothing.
+use mathlib.Core.Path.{_≡_, refl, ap, _∙_}
+use mathlib.Core.List.{List}
+use Prim.Native.Nat.{ℕ, _≤_, _<_}
+use native.Mathlib.Nat.{zero-add}
+use native.Mathlib.Omega.{arith}
+use borrow.Author.Tests.{lt-ltb, le-ltb}
+use lib.ListN.{length}
+use Rattle.lists.proofs.Stores.{sets-front}
+use Rattle.model.specs.Text.{wrote, not-written, unless-refused, fitting, bytes-after}
+use Rattle.text.specs.Put.{Put}
+use Rattle.listing.specs.declared.Listed.the-variants.{Wrote, Refused}
+use Rattle.listing.specs.Answer.{written-of, answer-of}
+use Rattle.listing.specs.Fits.{Fits}
+
+lent-less : (lent : ℕ) (bytes : List ℕ) → lent < length bytes → written-of lent bytes ≡ not-written 10
+unfolding written-of unless-refused fitting
+lent-less lent bytes h = rw (lt-ltb lent (length bytes) h)
+
+lent-enough : (lent : ℕ) (bytes : List ℕ) → length bytes ≤ lent → written-of lent bytes ≡ wrote bytes
+unfolding written-of unless-refused fitting
+lent-enough lent bytes h = rw (le-ltb lent (length bytes) h)
+
+pub refused-ten : (l bytes : List ℕ) → length l < length bytes → (Refused 10 ≡ answer-of (written-of (length l) bytes)) × (l ≡ bytes-after (written-of (length l) bytes) l)
+unfolding bytes-after
+refused-ten l bytes h = rw (lent-less (length l) bytes h) (refl, refl)
+
+pub stored-all : {l m : List ℕ} {end : ℕ} {bytes : List ℕ} → Put l m 0 end bytes → length bytes ≤ length l →
+    (Wrote end ≡ answer-of (written-of (length l) bytes)) × (m ≡ bytes-after (written-of (length l) bytes) l)
+unfolding bytes-after
+stored-all {l} {m} {end} {bytes} p h = rw (lent-enough (length l) bytes h) (ap Wrote (p .count ∙ zero-add (length bytes)), p .holds ∙ sets-front bytes l h)
+
+pub fits-all : (l bytes : List ℕ) → length bytes ≤ length l → Fits l 0 bytes
+fits-all l bytes h = record { within = omega arith }
