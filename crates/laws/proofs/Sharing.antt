@@ -42,7 +42,7 @@ row-alone (y ∷ log) d x (here q) =
     no-members _ (λ z m. let k = keep-in (λ z. eqb (z .row) (x .row)) log m in
     n .0 (subst (λ (r : ℕ). In r (map (λ x. x .row) log)) (eqb-true (z .row) (x .row) (k .1) ∙ ap (λ (z : Placed). z .row) q) (in-map (λ x. x .row) (k .0)))) in
     rw e (λ i. sym q i ∷ r i)
-row-alone (y ∷ log) d x (there m) = 
+row-alone (y ∷ log) d x (there m) =
     let n = different-parts (y .row) (map (λ x. x .row) log) d in
     let e : eqb (y .row) (x .row) ≡ false = is-false _ (λ z. n .0 (subst (λ (r : ℕ). In r (map (λ x. x .row) log)) (sym (eqb-true (y .row) (x .row) z)) (in-map (λ x. x .row) m))) in
     rw e (row-alone log (n .1) x m)
@@ -124,9 +124,12 @@ module _ (p : Lines) (passes : plan-refusal p ≡ nothing) where
             (s : Slot) × In s (p .slots) × (begins p (s .node) (x .tick) ≡ true) × (span p (full-ticks p) (x .row) ≡ slot-ticks p s)
         slot-of-item x m l =
             let r : x .row < rows p = kept .only-due x m .0 in
-            let s = g .has-slot (sender p (x .row)) (sender-in p g (x .row) r) in
-            (s .0, s .1, ap (λ (n : ℕ). begins p n (x .tick)) (s .2) ∙ kept .in-slot x (record { member = m; high = l }),
-            item-span p (full-ticks p) (x .row) l ∙ ap (slot-ticks p) (ap (slot-of p) (sym (s .2)) ∙ slot-own p g (s .0) (s .1)))
+            let s = g .has-slot (sender p (x .row)) (sender-in p g (x .row) r) in (
+              s .0,
+              s .1,
+              ap (λ (n : ℕ). begins p n (x .tick)) (s .2) ∙ kept .in-slot x (record { member = m; high = l }),
+              item-span p (full-ticks p) (x .row) l ∙ ap (slot-ticks p) (ap (slot-of p) (sym (s .2)) ∙ slot-own p g (s .0) (s .1)),
+            )
 
         at : (a b : Slot) → In a (p .slots) → In b (p .slots) → begins p (a .node) (x .tick) ≡ true → begins p (b .node) (y .tick) ≡ true →
             span p (full-ticks p) (x .row) ≡ slot-ticks p a → span p (full-ticks p) (y .row) ≡ slot-ticks p b →

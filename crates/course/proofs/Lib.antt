@@ -1,0 +1,7 @@
+-- Planning from event to event is the planning of the model: Ahead (the next event), Standing (what the arrays hold at an event), Event (what one event does to
+-- that), Planned (where a run of events leads). Loops has what the proofs of the functions rest on.
+pub mod Ahead
+pub mod Standing
+pub mod Event
+pub mod Planned
+pub mod Loops

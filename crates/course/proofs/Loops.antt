@@ -1,0 +1,225 @@
+-- What the loops of the code rest on: the first number below n that passes a test, the slot of a node that is nearer, what a slot leaves of the bus, and
+-- what one event leaves of all.
+-- Assumes nothing.
+use Prim.Native.Nat.{ℕ, zero, suc, _+_, _-_, _%_, _≤_, _<_}
+use mathlib.Core.Path.{_≡_, refl, sym, ap, _∙_, subst}
+use mathlib.Core.Bool.{Bool, true, false}
+use mathlib.Core.List.{List, [], _∷_}
+use native.Mathlib.Nat.{mod-le, mod-lt}
+use native.Mathlib.Omega.{arith}
+use lib.Dec.{eqb, leb}
+use lib.ListN.{getD, set, replicate}
+use borrow.Author.Tests.{le-leb, lt-leb, leb-true}
+use Rattle.lists.specs.Lists.{if_then_else_, below, upfrom}
+use Rattle.lists.proofs.Loops.{upfrom-start, upfrom-next, upfrom-end}
+use Rattle.timetable.specs.Bus.{beginning-at}
+use Rattle.packing.specs.Packing.{Load, load}
+use Rattle.board.specs.declared.Board.{Board}
+use Rattle.course.specs.Course.{last-event, Moment, Bus, bus, first-or, begins-by, slot-at-by, filled, fill-by, serve-by, come-by, next-slot, nearer-by, event-by, hears, begins-with, serves, waiting, moves, next, Leads, over, on, Ended, from-clock, Fits, board-of}
+use Rattle.course.proofs.Ahead.{come-after, event-after, First, found, missing, first-below}
+
+-- a choice whose test is known
+pub when : {A : Type 0} {b : Bool} (x y : A) → b ≡ true → x ≡ (if b then x else y)
+when x y e = sym (ap (λ (q : Bool). if q then x else y) e)
+
+pub unless : {A : Type 0} {b : Bool} (x y : A) → b ≡ false → y ≡ (if b then x else y)
+unless x y e = sym (ap (λ (q : Bool). if q then x else y) e)
+
+-- the first number from n on that passes a test is the first of all
+module _ (slots : ℕ) (f : ℕ → Bool) where
+  abbrev pub First-from : ℕ → Type 0
+  First-from n = first-or slots f (below slots) ≡ first-or slots f (upfrom n (slots - n))
+
+  pub first-start : First-from 0
+  first-start = ap (first-or slots f) (upfrom-start slots)
+
+  pub first-next : (n : ℕ) → n < slots → f n ≡ false → First-from n → First-from (n + 1)
+  unfolding first-or
+  first-next n l e h = h ∙ ap (first-or slots f) (upfrom-next slots n l) ∙ rw e
+
+  pub first-found : (n : ℕ) → n < slots → f n ≡ true → First-from n → n ≡ first-or slots f (below slots)
+  unfolding first-or
+  first-found n l e h = sym (h ∙ ap (first-or slots f) (upfrom-next slots n l) ∙ rw e)
+
+  pub first-none : (n : ℕ) → slots ≤ n → First-from n → slots ≡ first-or slots f (below slots)
+  unfolding first-or
+  first-none n l h = sym (h ∙ ap (first-or slots f) (upfrom-end slots n l))
+
+-- where some slot begins, it is one of the slots
+pub slot-below : (round : ℕ) (offset : List ℕ) (tick slots : ℕ) → (slot-at-by round offset tick slots ≡ slots → ⊥) → slot-at-by round offset tick slots < slots
+unfolding slot-at-by
+slot-below round offset tick slots n = at (first-below slots (begins-by round offset tick))
+  where
+    at : First slots (begins-by round offset tick) → slot-at-by round offset tick slots < slots
+    at (found k l e q) = omega (arith, l, q)
+    at (missing h q) = absurd (n q)
+
+-- the next beginning of a slot, by cases
+module _ (pending : ℕ → Bool) (round : ℕ) (offset : List ℕ) (u n least : ℕ) where
+  pub nearer-stays : least ≤ next-slot round offset n u → least ≡ nearer-by pending round offset u n least
+  unfolding nearer-by
+  nearer-stays l = rw (le-leb _ _ l)
+
+  pub nearer-moves : next-slot round offset n u < least → pending n ≡ true → next-slot round offset n u ≡ nearer-by pending round offset u n least
+  unfolding nearer-by
+  nearer-moves l e = rw (lt-leb _ _ l, e)
+
+  pub nearer-none : next-slot round offset n u < least → pending n ≡ false → least ≡ nearer-by pending round offset u n least
+  unfolding nearer-by
+  nearer-none l e = rw (lt-leb _ _ l, e)
+
+-- what a slot leaves, part by part
+pub filled-parts : (n end : ℕ) (s : Bus) {l : Load} {t : Bool} (used : ℕ) (short told : Bool) (comes place : List ℕ) {flight heard : ℕ} {passed : List ℕ} →
+    load used short comes place ≡ l → told ≡ t → flight ≡ (if eqb used 0 then s .flight else end) → heard ≡ (if told then end else s .told) →
+    passed ≡ (if short then set (s .passed) n (getD (s .passed) n 0 + 1) else s .passed) → bus flight heard comes place passed ≡ filled n end l t s
+unfolding filled
+filled-parts n end s used short told comes place e f a b c = (λ i. bus (a i) (b i) comes place (c i)) ∙ (λ i. filled n end (e i) (f i) s)
+
+-- a count that goes up by one leaves each at most one more
+set-more : (xs : List ℕ) (n k v : ℕ) → v ≤ getD xs n 0 + 1 → getD (set xs n v) k 0 ≤ getD xs k 0 + 1
+set-more [] n k v l = omega arith
+set-more (x ∷ xs) zero zero v l = l
+set-more (x ∷ xs) zero (suc k) v l = omega arith
+set-more (x ∷ xs) (suc n) zero v l = omega arith
+set-more (x ∷ xs) (suc n) (suc k) v l = set-more xs n k v l
+
+filled-more : (n end : ℕ) (l : Load) (t : Bool) (s : Bus) (k : ℕ) → getD (filled n end l t s .passed) k 0 ≤ getD (s .passed) k 0 + 1
+unfolding filled
+filled-more n end l t s k = at (l .short)
+  where
+    at : (q : Bool) → getD (if q then set (s .passed) n (getD (s .passed) n 0 + 1) else s .passed) k 0 ≤ getD (s .passed) k 0 + 1
+    at true = set-more (s .passed) n k (getD (s .passed) n 0 + 1) (omega arith)
+    at false = omega arith
+
+-- the first beginning of a slot at or after a tick is not before it
+beginning-from : (round offset t : ℕ) → 1 ≤ round → t ≤ beginning-at round offset t
+unfolding beginning-at
+beginning-from round offset t l = at (leb (t % round) offset) refl
+  where
+    at : (q : Bool) → leb (t % round) offset ≡ q → t ≤ (t - t % round) + (if q then offset else round + offset)
+    at true e = let z : t % round ≤ offset = leb-true (t % round) offset e in omega (arith, z, mod-le t round)
+    at false e = omega (arith, mod-le t round, mod-lt t l)
+
+-- nor after it by more than a round and the offset
+pub beginning-most : (round offset t : ℕ) → beginning-at round offset t ≤ (t + round) + offset
+unfolding beginning-at
+beginning-most round offset t = at (leb (t % round) offset)
+  where
+    at : (q : Bool) → (t - t % round) + (if q then offset else round + offset) ≤ (t + round) + offset
+    at true = omega arith
+    at false = omega arith
+
+module _ (b : Board) (unmet : List ℕ) where
+  serves-more : (comes : List ℕ) (m : Moment) (k : ℕ) → getD (serves b unmet comes m .passed) k 0 ≤ getD (m .passed) k 0 + 1
+  unfolding serves serve-by fill-by
+  serves-more comes m k = at (eqb (slot-at-by (b .round) (b .offset) (m .u - 1) (b .slots)) (b .slots))
+    where
+      at : (q : Bool) →
+          getD ((if q then bus (m .flight) (m .told) comes (m .place) (m .passed) else fill-by (b .processes) (b .tell) (b .conditions) (b .decider) (b .node) (b .queuefirst) (b .queue) (b .from) (b .cue) unmet (b .bytes) (b .lasts) (b .rooms) (slot-at-by (b .round) (b .offset) (m .u - 1) (b .slots)) (m .u) (bus (m .flight) (m .told) comes (m .place) (m .passed))) .passed) k 0
+          ≤ getD (m .passed) k 0 + 1
+      at true = omega arith
+      at false = filled-more _ _ _ _ (bus (m .flight) (m .told) comes (m .place) (m .passed)) k
+
+  -- each event adds at most one to a count, and lies after the one before
+  pub next-counts : (m : Moment) (k : ℕ) → getD (next b unmet m .passed) k 0 ≤ getD (m .passed) k 0 + 1
+  unfolding next moves
+  next-counts m k = serves-more (begins-with b unmet (hears b unmet m) m .comes) m k
+
+  pub next-later : Fits b → (m : Moment) → m .u ≤ last-event → m .u < next b unmet m .u
+  unfolding next moves next-slot
+  next-later f m l =
+      event-after _ (b .round) (b .offset) (m .u) _ (b .slots) (come-after _ _ (m .u) (b .slots) (omega arith))
+      (λ k z. let q = beginning-from (b .round) (getD (b .offset) k 0) (m .u) (f .round-one) in omega (arith, q))
+
+  -- what the steps of an event leave is the next moment
+  pub next-parts : (m : Moment) {run busy rows comes place passed : List ℕ} {flight told come u : ℕ} → run ≡ hears b unmet m → busy ≡ begins-with b unmet run m .busy →
+      rows ≡ begins-with b unmet run m .comes → bus flight told comes place passed ≡ serves b unmet rows m → come ≡ come-by flight busy (m .u) (b .slots) →
+      u ≡ event-by (waiting b unmet comes (m .u)) (b .round) (b .offset) (m .u) come (b .slots) →
+      record { u = u; come = come; flight = flight; told = told; run = run; busy = busy; comes = comes; place = place; passed = passed } ≡ next b unmet m
+  unfolding next moves
+  next-parts m {run} {busy} {rows} {comes} {place} {passed} {flight} {told} {come} {u} a d e s f g =
+      (λ i. record { u = g i; come = come; flight = flight; told = told; run = run; busy = busy; comes = comes; place = place; passed = passed })
+      ∙ (λ i. record {
+        u = event-by (waiting b unmet comes (m .u)) (b .round) (b .offset) (m .u) (f i) (b .slots);
+        come = f i;
+        flight = flight;
+        told = told;
+        run = run;
+        busy = busy;
+        comes = comes;
+        place = place;
+        passed = passed;
+      })
+      ∙ (λ i. moves b unmet run busy (s i) (m .u))
+      ∙ (λ i. moves b unmet run (d i) (serves b unmet (e i) m) (m .u))
+      ∙ (λ i. moves b unmet (a i) (begins-with b unmet (a i) m .busy) (serves b unmet (begins-with b unmet (a i) m .comes) m) (m .u))
+
+  -- the events before a moment: what it leads to the first one leads to
+  pub record Going (first m : Moment) : Type 0 where
+    pub leads : (e : Moment) → Leads b unmet m e → Leads b unmet first e
+    pub from-one : 1 ≤ m .u
+    pub counts-low : (k : ℕ) → getD (m .passed) k 0 ≤ m .u
+
+  pub going-start : (u flight : ℕ) {run : List ℕ} (busy comes place passed : List ℕ) → run ≡ replicate 64 0 → 1 ≤ u → ((k : ℕ) → getD passed k 0 ≤ u) →
+      Going (from-clock u flight busy comes place passed) (record { u = u; come = u; flight = flight; told = u; run = run; busy = busy; comes = comes; place = place; passed = passed })
+  unfolding from-clock
+  going-start u flight busy comes place passed q l h =
+      record {
+        leads = λ e r. subst (λ (xs : List ℕ). Leads b unmet (record { u = u; come = u; flight = flight; told = u; run = xs; busy = busy; comes = comes; place = place; passed = passed }) e) q r;
+        from-one = l;
+        counts-low = h;
+      }
+
+  pub going-on : Fits b → {first m : Moment} → Going first m → m .u ≤ last-event → Going first (next b unmet m)
+  going-on f {first} {m} g l =
+      let z : m .u < next b unmet m .u = next-later f m l in
+      record {
+        leads = λ e r. g .leads e (on m e l r);
+        from-one = omega (arith, z);
+        counts-low = λ k. omega (arith, z, g .counts-low k, next-counts m k);
+      }
+
+-- a board, and the one that has what planning reads of it
+module _ (b : Board) (unmet : List ℕ) where
+  abbrev pub read : Board
+  read =
+      board-of (b .processes) (b .tell) (b .conditions) (b .slots) (b .node) (b .ticks) (b .several) (b .from) (b .cue) (b .remote) (b .bytes) (b .decider) (b .intofirst) (b .into) (b .turnfirst) (b .turn) (b .queuefirst) (b .queue) (b .round) (b .offset) (b .lasts) (b .rooms)
+
+  pub fits-read : Fits b → Fits read
+  unfolding board-of
+  fits-read f =
+      record {
+        few-processes = f .few-processes;
+        few-rows = f .few-rows;
+        few-conditions = f .few-conditions;
+        few-slots = f .few-slots;
+        within-into = f .within-into;
+        within-queue = f .within-queue;
+        into-firsts = f .into-firsts;
+        turn-firsts = f .turn-firsts;
+        queue-firsts = f .queue-firsts;
+        turn-members = f .turn-members;
+        deciders = f .deciders;
+        ticks-small = f .ticks-small;
+        lasts-small = f .lasts-small;
+        round-one = f .round-one;
+        round-most = f .round-most;
+        offset-most = f .offset-most;
+      }
+
+  leads-read : (m e : Moment) → Leads read unmet m e → Leads b unmet m e
+  unfolding board-of next hears begins-with serves waiting moves
+  leads-read m e (over n l) = over m l
+  leads-read m e (on n f l r) = on m e l (leads-read (next b unmet m) e r)
+
+  pub ended-read : (first : Moment) (latest : ℕ) (comes place passed : List ℕ) → Ended read unmet first latest comes place passed → Ended b unmet first latest comes place passed
+  unfolding board-of
+  ended-read first latest comes place passed e =
+      record {
+        end = e .end;
+        leads = leads-read first (e .end) (e .leads);
+        last = e .last;
+        rows = e .rows;
+        places = e .places;
+        counts = e .counts;
+      }

@@ -1,0 +1,155 @@
+-- A run of events, from any moment at which the arrays hold planning before a tick, leads to the plan of the combination: its log, its delay and its
+-- pass-overs.
+-- Assumes nothing.
+use Prim.Native.Nat.{ℕ, zero, suc, _+_, _-_, _≤_, _<_, max}
+use mathlib.Core.Path.{_≡_, refl, sym, ap, _∙_, subst}
+use mathlib.Core.Logic.{_⊎_, inl, inr}
+use mathlib.Core.Bool.{Bool, true, false}
+use mathlib.Core.List.{List, [], _∷_, map, List·Memᴰ as In, List·Memᴰ·head as here, List·Memᴰ·tail as there, List·Memᴰ·not-nil as in-none}
+use native.Mathlib.Omega.{arith}
+use lib.Dec.{eqb, ltb}
+use lib.ListN.{length, getD, replicate, length-replicate}
+use borrow.Author.Tests.{eq-eqb, eqb-true, lt-ltb, ltb-true}
+use Rattle.lists.specs.Lists.{if_then_else_, keep, below, greatest}
+use Rattle.lists.proofs.Tests.{clash, two}
+use Rattle.lists.proofs.Members.{keep-in, in-keep, in-below, below-in}
+use Rattle.lists.proofs.Fill.{zeros-at}
+use Rattle.lists.proofs.Sums.{greatest-le, greatest-in}
+use Rattle.model.specs.Plan.{Lines, Slot, unit}
+use Rattle.model.specs.Bus.{is-process, condition-row}
+use Rattle.model.specs.Log.{Placed, Log, of-row, full-ticks, span, process-end, delay}
+use Rattle.model.specs.Planning.{State, before, bound, planned}
+use Rattle.model.specs.Refusals.{plan-refusal, nothing}
+use Rattle.laws.proofs.Good.{Good, good}
+use Rattle.laws.proofs.Bound.{planning-ends, bound-small}
+use Rattle.laws.proofs.Steps.{log-at}
+use Rattle.readiness.specs.Holding.{Holds, Row, absent, stands, Held}
+use Rattle.readiness.proofs.Held.{held-none}
+use Rattle.starting.specs.Busy.{Busy}
+use Rattle.starting.proofs.Ends.{busy-none}
+use Rattle.board.specs.declared.Board.{Board}
+use Rattle.board.specs.Board.{Boarded}
+use Rattle.course.specs.Course.{last-event, Moment, next, Leads, over, on, from-clock}
+use Rattle.course.proofs.Standing.{Slot-end, past, At}
+use Rattle.course.proofs.Event.{at-next}
+
+one-in : {A : Type 0} {x y : A} → In x (y ∷ []) → x ≡ y
+one-in (here q) = q
+one-in (there m) = absurd (in-none m)
+
+-- planning from a clock on, where every value that is under way arrives by it
+pub from-at : (p : Lines) (c : List Bool) (t flight : ℕ) (busy comes place passed : List ℕ) → Held p (log-at p c t) comes place → Busy p comes busy (suc t) →
+    ((r : ℕ) → length (p .processes) ≤ r → (getD comes r 0 ≤ suc t) ⊎ (getD comes r 0 ≡ flight)) → Slot-end p t flight →
+    ((k : ℕ) → k < length (p .conditions) → getD comes (condition-row p k) 0 ≤ suc t) →
+    ((n : ℕ) → n < length (p .slots) → getD passed n 0 ≡ length (keep (eqb n) (before p c t .passed))) → length passed ≡ 8 →
+    At p c t (from-clock (suc t) flight busy comes place passed)
+unfolding from-clock
+from-at p c t flight busy comes place passed h b f e k n l =
+    record {
+      clock = refl;
+      held = h;
+      ends = b;
+      flying = f;
+      flight-end = e;
+      telling = λ j x. inl (k j x);
+      told-end = past (omega arith);
+      running = λ q. clash (eq-eqb (suc t) (suc t) refl) q;
+      resting = λ q. clash (eq-eqb (suc t) (suc t) refl) q;
+      counts = n;
+      passed-long = l;
+    }
+
+-- planning from the beginning
+pub first-at : (p : Lines) (c : List Bool) → At p c 0 (from-clock 1 0 (replicate 8 0) (replicate 198 0) (replicate 198 0) (replicate 8 0))
+unfolding before
+first-at p c =
+    from-at p c 0 0 (replicate 8 0) (replicate 198 0) (replicate 198 0) (replicate 8 0) (held-none p) (busy-none p 1) (λ r l. inl (omega (arith, zeros-at 198 r))) (past (omega arith))
+    (λ k l. omega (arith, zeros-at 198 (condition-row p k))) (λ n l. zeros-at 8 n) (length-replicate {A = ℕ} 8 0)
+
+module _ (p : Lines) (passes : plan-refusal p ≡ nothing) (c : List Bool) (count : length c ≡ length (p .conditions)) (b : Board) (unmet : List ℕ) (o : Boarded p b)
+    (h : Holds p c (b .from) (b .cue) unmet (b .remote) (b .several) (b .intofirst) (b .into)) where
+  abbrev g : Good p
+  g = good p passes
+
+  leads-at : (m e : Moment) → Leads b unmet m e → (t : ℕ) → At p c t m → (w : ℕ) × At p c w e × (last-event < e .u)
+  leads-at m e (over n l) t s = (t, s, l)
+  leads-at m e (on n f l r) t s = leads-at (next b unmet m) e r (next b unmet m .u - 1) (at-next p passes c count b unmet o h t m s l)
+
+  ended : (t : ℕ) → last-event ≤ t → before p c t ≡ planned p c
+  ended t l =
+      let s = bound-small p g in
+      let q : bound p + (t - bound p) ≡ t = omega arith in
+      ap (before p c) (sym q) ∙ planning-ends p c passes count (t - bound p)
+
+  -- the plan of the combination, in the arrays
+  pub record Plans (comes place busy passed : List ℕ) : Type 0 where
+    pub held : Held p (planned p c .log) comes place
+    pub ends : (u : ℕ) × Busy p comes busy u
+    pub counts : (n : ℕ) → n < length (p .slots) → getD passed n 0 ≡ length (keep (eqb n) (planned p c .passed))
+    pub passed-long : length passed ≡ 8
+
+  pub leads-planned : (m e : Moment) → Leads b unmet m e → (t : ℕ) → At p c t m → Plans (e .comes) (e .place) (e .busy) (e .passed)
+  leads-planned m e l t s =
+      let r = leads-at m e l t s in
+      let w : ℕ = r .0 in
+      let a : At p c w e = r .1 in
+      let q : before p c w ≡ planned p c = ended w (omega (arith, r .2, a .clock)) in
+      record {
+        held = subst (λ (z : State). Held p (z .log) (e .comes) (e .place)) q (a .held);
+        ends = (suc w, a .ends);
+        counts = λ n l. a .counts n l ∙ ap (λ (z : State). length (keep (eqb n) (z .passed))) q;
+        passed-long = a .passed-long;
+      }
+
+  module _ (comes place busy passed : List ℕ) (k : Plans comes place busy passed) where
+    abbrev log : Log
+    log = planned p c .log
+
+    -- where a process of the plan ends
+    ends-at : (x : Placed) → In x log → x .row < length (p .processes) → (at : ℕ) → Row p log (x .row) (getD comes (x .row) 0) at → getD comes (x .row) 0 ≡ suc (x .tick + getD (full-ticks p) (x .row) 0)
+    unfolding span
+    ends-at x m l at (absent n z) = absurd (in-none (subst (λ (y : Log). In x y) n (in-keep (λ y. eqb (y .row) (x .row)) m (eq-eqb (x .row) (x .row) refl))))
+    ends-at x m l at (stands t n z) =
+        let q : x ≡ record { row = x .row; tick = t; place = at } = one-in (subst (λ (y : Log). In x y) n (in-keep (λ y. eqb (y .row) (x .row)) m (eq-eqb (x .row) (x .row) refl))) in
+        z ∙ rw (lt-ltb (x .row) (length (p .processes)) l) (ap (λ (t : ℕ). suc (t + getD (full-ticks p) (x .row) 0)) (sym (ap (λ (y : Placed). y .tick) q)))
+
+    ends-of : (i : ℕ) → i < length (p .processes) → (at : ℕ) → Row p log i (getD comes i 0) at → getD comes i 0 - 1 ≤ delay p (full-ticks p) log
+    unfolding delay process-end span
+    ends-of i l at (absent n z) = omega (arith, z)
+    ends-of i l at (stands t n z) =
+        let m : In (record { row = i; tick = t; place = at }) log = keep-in (λ y. eqb (y .row) i) log (subst (λ (y : Log). In (record { row = i; tick = t; place = at }) y) (sym n) (here refl)) .0 in
+        let f = greatest-in (process-end p (full-ticks p)) log (record { row = i; tick = t; place = at }) m in
+        let q : getD comes i 0 ≡ suc (t + getD (full-ticks p) i 0) = z ∙ rw (lt-ltb i (length (p .processes)) l) in
+        let e : process-end p (full-ticks p) (record { row = i; tick = t; place = at }) ≡ t + getD (full-ticks p) i 0 = rw (lt-ltb i (length (p .processes)) l) in
+        omega (arith, q, e, f)
+
+    abbrev last : ℕ
+    last = greatest (map (λ n. getD busy n 0) (below (length (p .slots))))
+
+    -- the delay is the last end of a process
+    pub delay-planned : greatest (map (λ n. getD busy n 0) (below (length (p .slots)))) - 1 ≡ delay p (full-ticks p) (planned p c .log)
+    unfolding delay process-end unit
+    delay-planned = omega (arith, low, high)
+      where
+        node-end : (n : ℕ) → In n (below (length (p .slots))) → getD busy n 0 ≤ delay p (full-ticks p) log + 1
+        node-end n m = at (k .ends .1 .some n (below-in (length (p .slots)) m))
+          where
+            at : (getD busy n 0 ≡ 0) ⊎ ((i : ℕ) × (i < length (p .processes)) × (unit p i ≡ n) × (getD comes i 0 ≡ getD busy n 0)) → getD busy n 0 ≤ delay p (full-ticks p) log + 1
+            at (inl q) = omega (arith, q)
+            at (inr q) = omega (arith, q .3, ends-of (q .0) (q .1) (getD place (q .0) 0) (k .held .row (q .0)))
+
+        low : last ≤ delay p (full-ticks p) log + 1
+        low = greatest-le (λ n. getD busy n 0) (delay p (full-ticks p) log + 1) (below (length (p .slots))) node-end
+
+        start-end : (x : Placed) → In x log → (q : Bool) → is-process p (x .row) ≡ q → (if q then x .tick + getD (full-ticks p) (x .row) 0 else 0) ≤ last - 1
+        start-end x m false q = omega arith
+        start-end x m true q =
+            let l : x .row < length (p .processes) = ltb-true _ _ q in
+            let e = ends-at x m l (getD place (x .row) 0) (k .held .row (x .row)) in
+            let f = k .ends .1 .most (x .row) l in
+            let w : unit p (x .row) < length (p .slots) = g .node-in (x .row) l in
+            let y = greatest-in (λ n. getD busy n 0) (below (length (p .slots))) (unit p (x .row)) (in-below (length (p .slots)) (unit p (x .row)) w) in
+            omega (arith, e, f, y)
+
+        high : delay p (full-ticks p) log ≤ last - 1
+        high = greatest-le (process-end p (full-ticks p)) (last - 1) log (λ x m. start-end x m (is-process p (x .row)) refl)

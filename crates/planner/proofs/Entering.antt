@@ -1,0 +1,62 @@
+-- The entries that are listed from the logs of all combinations, each planned from the beginning, are those of the plan's table.
+-- Assumes nothing.
+use mathlib.Core.Path.{_≡_, refl, sym, ap, _∙_, transport}
+use mathlib.Core.List.{List, [], _∷_, map}
+use Prim.Native.Nat.{ℕ, _+_, _^_, _<_}
+use native.Mathlib.Omega.{arith}
+use lib.ListN.{length, getD, replicate}
+use Rattle.lists.proofs.Fill.{zeros-at}
+use Rattle.model.specs.Plan.{Lines}
+use Rattle.model.specs.Bus.{rows}
+use Rattle.model.specs.Refusals.{nothing, plan-refusal}
+use Rattle.board.specs.declared.Board.{Board}
+use Rattle.board.specs.Board.{Boarded}
+use Rattle.entries.specs.Numbers.{row-numbers, Readable}
+use Rattle.entries.specs.Words.{Listed}
+use Rattle.entries.specs.Logs.{entry-from, Logs}
+use Rattle.entries.proofs.Links.{readable, row-link, words-link, words-count}
+use Rattle.entries.proofs.Keys.{number-back}
+use Rattle.frames.specs.Packed.{packed-entry}
+use Rattle.planner.specs.Planner.{Logged, Some-logs, Entered}
+
+-- no row is taken over from an earlier combination
+logs : (p : Lines) (b : Board) → Boarded p b → (comes place since : List ℕ) → Logged p comes place → since ≡ replicate 64 0 → Logs p comes place since (b .span)
+logs p b o comes place since h e =
+    record {
+      held = h;
+      spans = o .spans;
+      taken-over = λ r c l m n u. absurd (omega (arith, u, ap (λ (xs : List ℕ). getD xs c 0) e, zeros-at 64 c));
+    }
+
+-- the arrays can be read
+pub all-readable : (b : Board) (comes place since : List ℕ) → Some-logs b comes place → since ≡ replicate 64 0 → (combinations : ℕ) → combinations ≡ 2 ^ b .conditions →
+    (r c : ℕ) → r < b .rows → c < combinations → Readable comes place (b .span) r c
+all-readable b comes place since s e n q r c l h =
+    let p : Lines = s .plan in
+    let o : Boarded p b = s .boarded in
+    let w : n ≡ 2 ^ length (p .conditions) = q ∙ ap (λ (k : ℕ). 2 ^ k) (o .conditions-count) in
+    readable p (s .passes) comes place since (b .span) (logs p b o comes place since (s .logged) e) r c (omega (arith, o .row-count)) (omega arith)
+
+-- an entry made from a number has that number
+numbers-back : (r : ℕ) (xs : List ℕ) → map packed-entry (map (entry-from r) xs) ≡ xs
+unfolding packed-entry
+numbers-back r [] = refl
+numbers-back r (x ∷ xs) = λ i. number-back r x i ∷ numbers-back r xs i
+
+pub entered : (b : Board) (comes place since : List ℕ) → since ≡ replicate 64 0 → (combinations : ℕ) → combinations ≡ 2 ^ b .conditions → (list ends : List ℕ) (count : ℕ) →
+    Listed (row-numbers comes place (b .tell) (b .conditions) since (b .span) combinations) list ends (b .rows) count →
+    (p : Lines) → plan-refusal p ≡ nothing → Boarded p b → Logged p comes place → Entered p list ends count
+entered b comes place since e n q list ends count listed p fine o h =
+    let L : Logs p comes place since (b .span) = logs p b o comes place since h e in
+    let tell : b .tell ≡ length (p .processes) + length (p .edges) = o .tell-row ∙ (λ i. o .processes-count i + o .edges-count i) in
+    let k : b .conditions ≡ length (p .conditions) = o .conditions-count in
+    let w : n ≡ 2 ^ length (p .conditions) = q ∙ ap (λ (k : ℕ). 2 ^ k) k in
+    let x : Listed (row-numbers comes place (length (p .processes) + length (p .edges)) (length (p .conditions)) since (b .span) (2 ^ length (p .conditions))) list ends (rows p) count =
+    transport (λ i. Listed (row-numbers comes place (tell i) (k i) since (b .span) (w i)) list ends (o .row-count i) count) listed in
+    record {
+      laid = x .laid;
+      last = x .last;
+      words = words-link p fine comes place since (b .span) L list ends count x;
+      counted = words-count p fine comes place since (b .span) L list ends count x;
+      parts = λ r l. x .parts r l ∙ sym (ap (map packed-entry) (row-link p fine comes place since (b .span) L r l) ∙ numbers-back r _);
+    }

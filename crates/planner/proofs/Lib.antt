@@ -1,0 +1,6 @@
+-- Answering (the planner's answer by its refusals, and what the lent words hold after it), Entering (the entries listed are those of the table), Framing (the
+-- frames collected are those of the frame list, and the pass-overs of the nodes add up), Sound (the table written is sound with the delay given: `planned-sound`, `given-sound`).
+pub mod Answering
+pub mod Entering
+pub mod Framing
+pub mod Sound

@@ -1,0 +1,196 @@
+// The planner: a plan in memory in, a start table and a frame list out, as words that the caller lends. It plans every combination, lists the entries and
+// the frames, and writes only where nothing is refused.
+use board::Board;
+use board::of_plan;
+use courses::Totals;
+use courses::all_courses;
+use courses::how_many;
+use entries::all_entries;
+use frames::collect;
+use plan::Plan;
+use plan::refusals::Refusal;
+use plan::refusals::refuse;
+ghost use mathlib.Core.Path.{_≡_};
+ghost use mathlib.Core.List.{map};
+ghost use mathlib.Core.Bool.{true, false};
+ghost use Prim.Native.Nat.{ℕ, _*_, _≤_, _<_};
+ghost use lib.ListN.{getD, length, replicate, take};
+ghost use Rattle.lists.specs.Lists.{below, sum};
+ghost use Rattle.lists.specs.Front.{front};
+ghost use Rattle.model.specs.Plan.{Lines};
+ghost use Rattle.model.specs.Refusals.{nothing, plan-refusal};
+ghost use Rattle.model.specs.Table.{plan-answer, table-after, frames-after};
+ghost use Rattle.plan.specs.Memory.{lines};
+ghost use Rattle.board.specs.Board.{Boarded};
+ghost use Rattle.entries.specs.Words.{Laid, table as table-words};
+ghost use Rattle.frames.specs.Packed.{packed-words};
+ghost use Rattle.courses.specs.Courses.{Planned-all};
+ghost use Rattle.planner.specs.Planner.{answer-of, Logged, Some-logs, Some-plans, Entered, Answers};
+
+// What the planner gives where nothing is refused: how many words of the table and of the frame list are written, the worst delay, and the pass-over count.
+pub struct Made {
+    pub words: usize,
+    pub framewords: usize,
+    pub delay: u32,
+    pub passed: u32,
+}
+
+// The planner's answer: what it made, or the number of the refusal.
+pub enum Planned {
+    Made(Made),
+    Refused(u32),
+}
+
+fn no_rows() -> [u32; 12672]
+    ensures { λ r. ⌜ r ≡ replicate 12672 0 ⌝ }
+{
+    [0u32; 12672]
+}
+
+fn no_numbers() -> [u64; 12672]
+    ensures { λ r. ⌜ r ≡ replicate 12672 0 ⌝ }
+{
+    [0u64; 12672]
+}
+
+fn no_places() -> [u32; 199]
+    ensures { λ r. ⌜ r ≡ replicate 199 0 ⌝ }
+{
+    [0u32; 199]
+}
+
+fn no_clocks() -> [u32; 64]
+    ensures { λ r. ⌜ r ≡ replicate 64 0 ⌝ }
+{
+    [0u32; 64]
+}
+
+// The pass-overs of the nodes added up.
+fn pass_overs(passed: [u32; 8], slots: usize) -> u32
+    requires { ⌜ (slots ≤ 8) × ((n : ℕ) → n < slots → getD passed n 0 ≤ 12672) ⌝ }
+    ensures { λ r. ⌜ r ≡ sum (map (λ n. getD passed n 0) (below slots)) ⌝ }
+{
+    let mut total: u32 = 0;
+    let mut n: usize = 0;
+    while n < slots {
+        total += passed[n];
+        n += 1;
+    }
+    total
+}
+
+// The entries of the table as numbers in `list`, row r's from place ends[r] up to place ends[r + 1]. How many there are in all.
+fn list_entries<'a>(
+    b: Board,
+    comes: &'a [u32; 12672],
+    place: &'a [u32; 12672],
+    list: &mut [u64; 12672],
+    ends: &mut [u32; 199],
+) -> usize
+    requires { ⌜ Some-logs b (now comes) (now place) ⌝ ∗ ⌜ (length (now list) ≡ 12672) × (length (now ends) ≡ 199) ⌝ }
+    ensures { λ count. ⌜ ((p : Lines) → plan-refusal p ≡ nothing → Boarded p b → Logged p (now (comes .entry)) (now (place .entry)) → Entered p (now (list .exit)) (now (ends .exit)) count) ⌝ }
+{
+    let combinations = how_many(b.conditions);
+    let since = no_clocks();
+    all_entries(
+        comes,
+        place,
+        &since,
+        &b.span,
+        combinations,
+        b.tell,
+        b.conditions,
+        b.rows,
+        list,
+        ends,
+    )
+}
+
+// Writes the entries of all rows, for which the lent words suffice, and the first `used` frames, where the words lent for them suffice too; if not, nothing.
+fn write_both<'a>(
+    list: &'a [u64; 12672],
+    ends: &'a [u32; 199],
+    rows: usize,
+    out: &'a [u64; 12672],
+    used: usize,
+    table: &mut [u32],
+    frames: &mut [u32],
+) -> bool
+    requires { ⌜ (rows ≤ 198) × Laid (now list) (now ends) rows × (5 * getD (now ends) rows 0 ≤ length (now table)) ⌝ ∗ ⌜ (used ≤ 12672) × (length (now out) ≡ 12672) × ((i : ℕ) → i < used → getD (now out) i 0 < 4398046511104) ⌝ }
+    ensures written { λ r. ⌜ (r ≡ true → (3 * used ≤ length (now (frames .entry))) × (now (table .exit) ≡ front (table-words (now (list .entry)) (now (ends .entry)) rows) (now (table .entry))) × (now (frames .exit) ≡ front (packed-words (take used (now (out .entry)))) (now (frames .entry)))) ⌝ }
+    ensures kept { λ r. ⌜ (r ≡ false → (length (now (frames .entry)) < 3 * used) × (now (table .exit) ≡ now (table .entry)) × (now (frames .exit) ≡ now (frames .entry))) ⌝ }
+{
+    if frames.len() < 3 * used {
+        return false;
+    }
+    entries::write(list, ends, rows, table);
+    frames::write(out, used, frames);
+    true
+}
+
+// Lists the entries and the frames of the table, and writes both where the lent words suffice.
+fn write_all<'a>(
+    b: Board,
+    t: Totals,
+    comes: &'a [u32; 12672],
+    place: &'a [u32; 12672],
+    table: &mut [u32],
+    frames: &mut [u32],
+) -> Planned
+    requires { ⌜ Some-plans b t (now comes) (now place) ⌝ }
+    ensures { λ r. ⌜ ((p : Lines) → plan-refusal p ≡ nothing → Boarded p b → Planned-all p t (now (comes .entry)) (now (place .entry)) → Answers p r (now (table .entry)) (now (frames .entry)) (now (table .exit)) (now (frames .exit))) ⌝ }
+{
+    let mut list = no_numbers();
+    let mut ends = no_places();
+    let count = list_entries(b, comes, place, &mut list, &mut ends);
+    if table.len() < 5 * count {
+        return Planned::Refused(10);
+    }
+    let mut out = no_numbers();
+    let used = collect(
+        &list,
+        &ends,
+        b.processes,
+        b.rows,
+        &b.sender,
+        &b.size,
+        &mut out,
+    );
+    if write_both(&list, &ends, b.rows, &out, used, table, frames) {
+        let counts = t.passed;
+        let passed = pass_overs(counts, b.slots);
+        return Planned::Made(Made {
+            words: 5 * count,
+            framewords: 3 * used,
+            delay: t.delay,
+            passed,
+        });
+    }
+    Planned::Refused(11)
+}
+
+// Plans a plan in which refusals 2 to 9 find nothing.
+fn plan_accepted(p: Plan, table: &mut [u32], frames: &mut [u32]) -> Planned
+    requires { ⌜ plan-refusal (lines p) ≡ nothing ⌝ }
+    ensures { λ r. ⌜ Answers (lines p) r (now (table .entry)) (now (frames .entry)) (now (table .exit)) (now (frames .exit)) ⌝ }
+{
+    let b = of_plan(p);
+    let mut comes = no_rows();
+    let mut place = no_rows();
+    let t = all_courses(b, &mut comes, &mut place);
+    write_all(b, t, &comes, &place, table, frames)
+}
+
+// Plans any plan in memory: the start table is written to the front of `table`, five words to an entry, and the frame list to the front of `frames`, three
+// words to a frame; words beyond them stay as they were. A refusal, 2 to 11, leaves every lent word as it was.
+pub fn plan_table(p: Plan, table: &mut [u32], frames: &mut [u32]) -> Planned
+    ensures answer { λ r. ⌜ r ≡ answer-of (plan-answer (lines p) (length (now (table .entry))) (length (now (frames .entry)))) ⌝ }
+    ensures table { λ r. ⌜ now (table .exit) ≡ table-after (plan-answer (lines p) (length (now (table .entry))) (length (now (frames .entry)))) (now (table .entry)) ⌝ }
+    ensures frames { λ r. ⌜ now (frames .exit) ≡ frames-after (plan-answer (lines p) (length (now (table .entry))) (length (now (frames .entry)))) (now (frames .entry)) ⌝ }
+{
+    let refusal = refuse(p);
+    match refusal {
+        Refusal::Refused(n) => Planned::Refused(n),
+        Refusal::Nothing => plan_accepted(p, table, frames),
+    }
+}
