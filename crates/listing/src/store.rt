@@ -1,10 +1,15 @@
-// The lines of a listing stored from a place on in lent bytes that have room for them: each function answers where its text ends.
+// The lines of a listing stored from a place on in lent bytes that have room for them: each `put` function answers where its text ends.
+// The parts of a listing go through the line writer: `head`, `entries` and `frames` answer the writer once it has their text.
 use crate::count::wide;
+use text::Writer;
+use text::filled;
+use text::start;
 ghost use mathlib.Core.Path.{_≡_};
 ghost use mathlib.Core.List.{[], _∷_, _++_};
 ghost use Prim.Native.Nat.{_+_, _<_};
 ghost use Rattle.model.specs.Listing.{refused-line};
 ghost use Rattle.model.specs.Text.{decimal};
+ghost use Rattle.text.specs.Line.{put-on};
 ghost use Rattle.text.specs.Put.{Put};
 ghost use Rattle.listing.specs.Fits.{Fits};
 ghost use Rattle.listing.specs.Parts.{two-digits, value-at, values-from, column-of, start-of, item-of, entry-of, entries-text, frame-of, frames-text, head-of, listing-of};
@@ -287,16 +292,61 @@ fn put_frames(out: &mut [u8], at: usize, frames: &[u32]) -> usize
 }
 
 // Stores the lines of the delay and of the pass-over count.
-fn put_head(out: &mut [u8], delay: u32, passed: u32) -> usize
-    requires { ⌜ Fits (now out) 0 (head-of delay passed) ⌝ }
-    ensures { λ r. ⌜ Put (now (out .entry)) (now (out .exit)) 0 r (head-of delay passed) ⌝ }
+fn put_head(out: &mut [u8], at: usize, delay: u32, passed: u32) -> usize
+    requires { ⌜ Fits (now out) at (head-of delay passed) ⌝ }
+    ensures { λ r. ⌜ Put (now (out .entry)) (now (out .exit)) at r (head-of delay passed) ⌝ }
 {
-    let first = put_labelled(out, 0, b"(delay ", delay);
+    let first = put_labelled(out, at, b"(delay ", delay);
     let second = put_labelled(out, first, b")\n(passed ", passed);
     put_word(out, second, b")\n")
 }
 
-// Stores a listing that the lent bytes have room for.
+// The line writer once it has the lines of the delay and of the pass-over count.
+fn head<'a>(w: Writer<'a>, delay: u32, passed: u32) -> Writer<'a>
+    requires { ⌜ Fits (now (w .out)) (w .at) (head-of delay passed) ⌝ }
+    ensures { λ r. ⌜ r ≡ put-on (w .entry) (head-of delay passed) ⌝ }
+{
+    let at = w.at;
+    let end = put_head(&mut *w.out, at, delay, passed);
+    Writer {
+        out: w.out,
+        at: end,
+    }
+}
+
+// The line writer once it has the lines of a table.
+fn entries<'a, 'b>(
+    w: Writer<'a>,
+    processes: usize,
+    edges: usize,
+    conditions: usize,
+    table: &'b [u32],
+) -> Writer<'a>
+    requires { ⌜ Fits (now (w .out)) (w .at) (entries-text processes edges conditions (now table)) ⌝ }
+    ensures { λ r. ⌜ r ≡ put-on (w .entry) (entries-text processes edges conditions (now (table .entry))) ⌝ }
+{
+    let at = w.at;
+    let end = put_entries(&mut *w.out, at, processes, edges, conditions, table);
+    Writer {
+        out: w.out,
+        at: end,
+    }
+}
+
+// The line writer once it has the lines of a frame list.
+fn frames<'a, 'b>(w: Writer<'a>, list: &'b [u32]) -> Writer<'a>
+    requires { ⌜ Fits (now (w .out)) (w .at) (frames-text (now list)) ⌝ }
+    ensures { λ r. ⌜ r ≡ put-on (w .entry) (frames-text (now (list .entry))) ⌝ }
+{
+    let at = w.at;
+    let end = put_frames(&mut *w.out, at, list);
+    Writer {
+        out: w.out,
+        at: end,
+    }
+}
+
+// Stores a listing that the lent bytes have room for, through the line writer.
 pub fn put_listing<'a>(
     out: &mut [u8],
     processes: usize,
@@ -305,21 +355,28 @@ pub fn put_listing<'a>(
     delay: u32,
     passed: u32,
     table: &'a [u32],
-    frames: &'a [u32],
+    list: &'a [u32],
 ) -> usize
-    requires { ⌜ Fits (now out) 0 (listing-of processes edges conditions delay passed (now table) (now frames)) ⌝ }
-    ensures { λ r. ⌜ Put (now (out .entry)) (now (out .exit)) 0 r (listing-of processes edges conditions delay passed (now (table .entry)) (now (frames .entry))) ⌝ }
+    requires { ⌜ Fits (now out) 0 (listing-of processes edges conditions delay passed (now table) (now list)) ⌝ }
+    ensures { λ r. ⌜ Put (now (out .entry)) (now (out .exit)) 0 r (listing-of processes edges conditions delay passed (now (table .entry)) (now (list .entry))) ⌝ }
 {
-    let head = put_head(out, delay, passed);
-    let end = put_entries(out, head, processes, edges, conditions, table);
-    put_frames(out, end, frames)
+    filled(frames(
+        entries(
+            head(start(out, 0), delay, passed),
+            processes,
+            edges,
+            conditions,
+            table,
+        ),
+        list,
+    ))
 }
 
-// Stores the line of a refusal that the lent bytes have room for.
+// Stores the line of a refusal that the lent bytes have room for: its label and number through the line writer.
 pub fn put_refusal(out: &mut [u8], number: u32) -> usize
     requires { ⌜ Fits (now out) 0 (refused-line number) ⌝ }
     ensures { λ r. ⌜ Put (now (out .entry)) (now (out .exit)) 0 r (refused-line number) ⌝ }
 {
-    let end = put_labelled(out, 0, b"(refused ", number);
+    let end = text::put_labelled(out, 0, b"(refused ", number);
     put_word(out, end, b")\n")
 }

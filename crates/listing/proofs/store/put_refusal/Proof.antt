@@ -1,5 +1,6 @@
--- `listing::store::put_refusal` meets its contract: the labelled number is stored, then the end of the line.
+-- `listing::store::put_refusal` meets its contract: the labelled number is stored through the line writer, then the end of the line.
 -- Assumes nothing.
+use native.Mathlib.Omega.{arith}
 use Rattle.model.specs.Text.{text}
 use Rattle.listing.specs.Parts.{labelled}
 use Rattle.listing.proofs.Lines.{refused-parts}
@@ -15,7 +16,8 @@ slice-aggregate-put-labelled c = search needs
 put-labelled-requires : tie.Need-put-labelled-requires
 put-labelled-requires c κs =
     let a = c .before .before .before in
-    fits-first (labelled "(refused " (a .args .number)) (text ")\n") (rw (refused-parts (a .args .number)) at (a .pre))
+    let f = fits-first (labelled "(refused " (a .args .number)) (text ")\n") (rw (refused-parts (a .args .number)) at (a .pre)) in
+    record { fits = omega (arith, f .within) }
 
 slice-aggregate-put-word : tie.Need-slice-aggregate-put-word
 slice-aggregate-put-word c = search needs
