@@ -28,6 +28,29 @@ extern "C" {
  */
 uint64_t riscadru_copy_plan(const uint8_t *text, size_t text_length, uint8_t *out, size_t out_length);
 
+/* Reads a plan text and plans it. Words are 32-bit, little-endian; stray last bytes of `table` and
+ * `frames` are no word and stay as they were.
+ *
+ * Answer: how many bytes of `table` were written. `table` then begins with the start table, five
+ * words to an entry, `frames` with the frame list, three words to a frame, and `totals`, as far as
+ * its bytes go, with four words: how many words the start table has, how many words the frame list
+ * has, the worst delay and the pass-over count. All other bytes are as they were. Or a refusal, and
+ * all lent bytes are as they were: 1, the text exceeds 16,384 bytes or is not of the form; 2 to 9,
+ * the plan breaks that rule first; 10, the entries need more words than lent; 11, the frames need
+ * more words than lent.
+ */
+uint64_t riscadru_plan_table(const uint8_t *text, size_t text_length, uint8_t *table, size_t table_length,
+                             uint8_t *frames, size_t frames_length, uint8_t *totals, size_t totals_length);
+
+/* Writes what the planning program prints for a plan text, to the front of `out`: the listing, or
+ * `(refused N)` and a line feed, with N from 1 to 11. The program lends 3,000 entries and 2,000
+ * frames.
+ *
+ * Answer: how many bytes were written, and `out` is otherwise as it was. Or refusal 10, the printed
+ * bytes are more than lent, and `out` is as it was.
+ */
+uint64_t riscadru_plan_listing(const uint8_t *text, size_t text_length, uint8_t *out, size_t out_length);
+
 #ifdef __cplusplus
 }
 #endif

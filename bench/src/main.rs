@@ -1,58 +1,36 @@
-//! Plans the same inputs with each planner in turn, interleaved, and prints for each class of
-//! inputs the nanoseconds per plan, the ratio to the baseline and, where valgrind is there, the
-//! instructions per plan.
+//! Works on the same inputs in several ways, interleaved, and prints for each class of inputs and
+//! each way the nanoseconds per plan and, where valgrind is there, the instructions per plan, with
+//! their ratios to those of the first way.
+//!
+//! The first set of lines plans, from lines in memory to words. The others begin with the text of
+//! plans that the planning program accepts: the parts of the baseline, then the way from text to
+//! words and the whole way from text to listing, by the baseline and, if it is built, by our
+//! archive.
 //!
 //! For each input the least time over all rounds counts; a class's number is the mean over its
 //! inputs. Instructions are counted by valgrind on this program itself, called with the words
-//! `repeat CLASS PLANNER TIMES`: twice as many rounds less as many rounds.
+//! `repeat SET CLASS WAY TIMES`: twice as many rounds less as many rounds.
+
+mod sets;
 
 use std::process::Command;
 use std::time::{Duration, Instant};
 
-use bench::baseline::{Outcome, Planner};
-use generate::{plan, Kind, Random};
-use reference::Lines;
-
-/// A planner: lines in, words and outcome out.
-type PlanInto<'a> = dyn FnMut(&Lines, &mut [u32], &mut [u32]) -> Result<Outcome, u8> + 'a;
-
-/// A planner and its name.
-type Named<'a> = (&'static str, Box<PlanInto<'a>>);
-
-/// The classes of inputs and how many inputs each has.
-const CLASSES: [(Kind, u64); 7] = [
-    (Kind::Tiny, 64),
-    (Kind::DenseBus, 32),
-    (Kind::ManyConditions, 32),
-    (Kind::NestedAny, 32),
-    (Kind::Largest, 4),
-    (Kind::LongestRound, 32),
-    (Kind::ShortestRound, 32),
-];
+use sets::{compare, inputs, Input, Set, Way, CLASSES, SETS, UNCOUNTED};
 
 /// How long the rounds of a class go on; the last one is finished.
 const TIME_PER_CLASS: Duration = Duration::from_millis(1_200);
 
-/// A planner is called again until this much time is measured.
+/// A way is gone again until this much time is measured.
 const LEAST_TIME: Duration = Duration::from_micros(20);
-
-/// The words lent to every planner: enough for the largest plan.
-const WORDS: usize = 198 * 64 * 5;
-const FRAME_WORDS: usize = 134 * 64 * 3;
-
-/// The planner that the others are compared with.
-const BASELINE: &str = "baseline";
-
-/// A planner whose instructions are not counted: under valgrind it would take minutes.
-const UNCOUNTED: &str = "reference";
 
 fn main() {
     let words: Vec<String> = std::env::args().skip(1).collect();
     match words.as_slice() {
         [] => print_all(),
-        [word, class, planner, times] if word == "repeat" => repeat(class, planner, times),
+        [word, set, class, way, times] if word == "repeat" => repeat(set, class, way, times),
         _ => {
-            eprintln!("usage: bench [repeat CLASS PLANNER TIMES]");
+            eprintln!("usage: bench [repeat SET CLASS WAY TIMES]");
             std::process::exit(2);
         }
     }
@@ -60,55 +38,84 @@ fn main() {
 
 /// Measures and prints everything.
 fn print_all() {
-    let mut planners = planners();
     let counted = Command::new("valgrind").arg("--version").output().is_ok();
-    println!("nanoseconds per plan (ratio to the baseline; instructions per plan)");
-    for (kind, count) in CLASSES {
-        let inputs = inputs(kind, count);
-        compare(&mut planners, &inputs);
-        let means = measure(&mut planners, &inputs);
-        let base = means[0].max(1) as f64;
-        print!("{:<16}", format!("{kind:?}"));
-        for ((name, _), mean) in planners.iter().zip(means) {
-            print!("  {name} {mean} ({:.2}", mean as f64 / base);
-            if counted && *name != UNCOUNTED {
-                print!("; {}", instructions(kind, name) / count);
-            }
-            print!(")");
+    println!("nanoseconds per plan; instructions per plan (each with its ratio to the first)");
+    if !cfg!(have_archive) {
+        println!("our archive is not built, so it is not measured");
+    }
+    for set in &SETS {
+        println!("{}: {}", set.name, set.about);
+        for class in 0..CLASSES.len() {
+            print_class(set, class, counted);
         }
-        println!();
     }
 }
 
-/// Plans the inputs of a class so many times over, for valgrind to count.
-fn repeat(class: &str, planner: &str, times: &str) {
-    let (kind, count) = CLASSES
-        .into_iter()
-        .find(|(kind, _)| format!("{kind:?}") == class)
+/// Measures and prints a class of inputs.
+fn print_class(set: &Set, class: usize, counted: bool) {
+    let inputs = inputs(set, class);
+    compare(set, &inputs);
+    let mut ways = (set.ways)();
+    let times = measure(&mut ways, &inputs);
+    let name = class_name(class);
+    let counts: Vec<Option<u64>> = ways
+        .iter()
+        .map(|(way, _)| {
+            let counted = counted && *way != UNCOUNTED;
+            counted.then(|| instructions(set, &name, way) / inputs.len() as u64)
+        })
+        .collect();
+    print!("{name:<16}");
+    for (number, (way, _)) in ways.iter().enumerate() {
+        print!("  {way} {}", with_ratio(set, times[number], times[0]));
+        if let (Some(count), Some(first)) = (counts[number], counts[0]) {
+            print!("; {}", with_ratio(set, count, first));
+        }
+    }
+    println!();
+}
+
+/// A number and, where ways are compared, its ratio to that of the first way.
+fn with_ratio(set: &Set, number: u64, first: u64) -> String {
+    if set.compared {
+        let ratio = number as f64 / first.max(1) as f64;
+        format!("{number} ({ratio:.2})")
+    } else {
+        number.to_string()
+    }
+}
+
+fn class_name(class: usize) -> String {
+    format!("{:?}", CLASSES[class].0)
+}
+
+/// Goes a way with the inputs of a class so many times over, for valgrind to count.
+fn repeat(set: &str, class: &str, way: &str, times: &str) {
+    let set = SETS.iter().find(|s| s.name == set).expect("a set");
+    let class = (0..CLASSES.len())
+        .find(|&c| class_name(c) == class)
         .expect("a class of inputs");
-    let mut planners = planners();
-    let (_, plan) = planners
+    let mut ways = (set.ways)();
+    let (_, go) = ways
         .iter_mut()
-        .find(|(name, _)| *name == planner)
-        .expect("a planner");
-    let (mut words, mut frames) = (vec![0; WORDS], vec![0; FRAME_WORDS]);
-    let inputs = inputs(kind, count);
+        .find(|(name, _)| *name == way)
+        .expect("a way");
+    let inputs = inputs(set, class);
     for _ in 0..times.parse().expect("a number of times") {
-        for lines in &inputs {
-            let outcome = plan(std::hint::black_box(lines), &mut words, &mut frames);
-            let _ = std::hint::black_box(outcome);
+        for input in &inputs {
+            go(std::hint::black_box(input));
         }
     }
 }
 
 /// The instructions of one round over the inputs of a class.
-fn instructions(kind: Kind, planner: &str) -> u64 {
+fn instructions(set: &Set, class: &str, way: &str) -> u64 {
     let counted = |times: &str| {
         let program = std::env::current_exe().expect("this program");
         let out = Command::new("valgrind")
             .args(["--tool=callgrind", "--callgrind-out-file=/dev/null"])
             .arg(program)
-            .args(["repeat", &format!("{kind:?}"), planner, times])
+            .args(["repeat", set.name, class, way, times])
             .output()
             .expect("valgrind");
         let said = String::from_utf8_lossy(&out.stderr).into_owned();
@@ -120,93 +127,32 @@ fn instructions(kind: Kind, planner: &str) -> u64 {
     twice - counted("1")
 }
 
-/// All planners that are measured.
-///
-/// The one of the archive is to be added here, with words and outcome in the same form: depend on
-/// the crate `ours` by path, and copy its build script, which sets `have_archive`, to this package.
-fn planners<'a>() -> Vec<Named<'a>> {
-    let mut baseline = Planner::default();
-    vec![
-        (
-            BASELINE,
-            Box::new(move |lines, words, frames| baseline.plan(lines, words, frames)),
-        ),
-        (UNCOUNTED, Box::new(plan_with_reference)),
-    ]
-}
-
-/// The reference as a planner into lent words.
-fn plan_with_reference(
-    lines: &Lines,
-    words: &mut [u32],
-    frames: &mut [u32],
-) -> Result<Outcome, u8> {
-    let planned = reference::plan(lines, words.len(), frames.len())?;
-    words[..planned.words.len()].copy_from_slice(&planned.words);
-    frames[..planned.frames.len()].copy_from_slice(&planned.frames);
-    let mut passed_by_node = [0; 8];
-    passed_by_node[..planned.passed_by_node.len()].copy_from_slice(&planned.passed_by_node);
-    Ok(Outcome {
-        words: planned.words.len(),
-        frame_words: planned.frames.len(),
-        passed_by_node,
-        delay: planned.delay,
-    })
-}
-
-/// The inputs of a class.
-fn inputs(kind: Kind, count: u64) -> Vec<Lines> {
-    (0..count)
-        .map(|number| plan(kind, &mut Random::new(number)))
-        .collect()
-}
-
-/// Stops the program unless all planners give the same words and outcome.
-fn compare(planners: &mut [Named], inputs: &[Lines]) {
-    for lines in inputs {
-        let mut results = planners.iter_mut().map(|(_, plan)| {
-            let (mut words, mut frames) = (vec![0; WORDS], vec![0; FRAME_WORDS]);
-            let outcome = plan(lines, &mut words, &mut frames);
-            (outcome, words, frames)
-        });
-        let first = results.next();
-        assert!(results.all(|result| Some(result) == first));
-    }
-}
-
-/// The mean over the inputs of each planner's least time, in nanoseconds.
-fn measure(planners: &mut [Named], inputs: &[Lines]) -> Vec<u128> {
-    let (mut words, mut frames) = (vec![0; WORDS], vec![0; FRAME_WORDS]);
-    let mut least = vec![vec![u128::MAX; inputs.len()]; planners.len()];
+/// The mean over the inputs of each way's least time, in nanoseconds.
+fn measure(ways: &mut [Way], inputs: &[Input]) -> Vec<u64> {
+    let mut least = vec![vec![u64::MAX; inputs.len()]; ways.len()];
     let begin = Instant::now();
     while begin.elapsed() < TIME_PER_CLASS {
-        for (input, lines) in inputs.iter().enumerate() {
-            for (planner, (_, plan)) in planners.iter_mut().enumerate() {
-                let time = time_once(plan, lines, &mut words, &mut frames);
-                least[planner][input] = least[planner][input].min(time);
+        for (number, input) in inputs.iter().enumerate() {
+            for (way, (_, go)) in ways.iter_mut().enumerate() {
+                let time = time_once(go, input);
+                least[way][number] = least[way][number].min(time);
             }
         }
     }
-    let mean = |times: Vec<u128>| times.iter().sum::<u128>() / times.len() as u128;
+    let mean = |times: Vec<u64>| times.iter().sum::<u64>() / times.len() as u64;
     least.into_iter().map(mean).collect()
 }
 
-/// The nanoseconds of one plan: the mean of as many calls as it takes to measure.
-fn time_once(
-    plan: &mut Box<PlanInto>,
-    lines: &Lines,
-    words: &mut [u32],
-    frames: &mut [u32],
-) -> u128 {
+/// The nanoseconds of one input: the mean of as many calls as it takes to measure.
+fn time_once(go: &mut Box<dyn FnMut(&Input)>, input: &Input) -> u64 {
     let begin = Instant::now();
     let mut calls = 0;
     loop {
-        let outcome = plan(std::hint::black_box(lines), words, frames);
-        let _ = std::hint::black_box(outcome);
+        go(std::hint::black_box(input));
         calls += 1;
         let time = begin.elapsed();
         if time >= LEAST_TIME {
-            return time.as_nanos() / calls;
+            return time.as_nanos() as u64 / calls;
         }
     }
 }

@@ -1,1 +1,3 @@
 pub mod Copy
+pub mod Listing
+pub mod Tables

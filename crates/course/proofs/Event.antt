@@ -1,6 +1,6 @@
 -- What one event does: where the arrays hold planning before a tick, the next event has them hold planning before its own tick.
 -- Assumes nothing.
-use Prim.Native.Nat.{ℕ, zero, suc, _+_, _-_, _≤_, _<_}
+use Prim.Native.Nat.{ℕ, zero, suc, _+_, _-_, _*_, _≤_, _<_}
 use mathlib.Core.Path.{_≡_, refl, sym, ap, _∙_, subst}
 use mathlib.Core.Logic.{_⊎_, inl, inr}
 use mathlib.Core.Bool.{Bool, true, false, not, _&&_}
@@ -21,7 +21,7 @@ use Rattle.model.specs.Planning.{View, State, view, starts, pending, takes, pas
 use Rattle.model.specs.Refusals.{plan-refusal, nothing}
 use Rattle.laws.proofs.Good.{Good, good}
 use Rattle.laws.proofs.Rows.{done-by}
-use Rattle.laws.proofs.Slots.{slot-own, beginning-begins, beginning-within, beginning-first, beginning-in, slots-apart}
+use Rattle.laws.proofs.Slots.{slot-own, slot-ticks-one, beginning-begins, beginning-within, beginning-first, beginning-in, slots-apart}
 use Rattle.laws.proofs.Steps.{seen, log-at, view-at}
 use Rattle.laws.proofs.QuietTicks.{idle-starts, stays}
 use Rattle.laws.proofs.History.{over-then}
@@ -41,8 +41,9 @@ use Rattle.packing.specs.Items.{Items}
 use Rattle.packing.proofs.Links.{pending-link, send-held, send-short, send-either, send-untold, send-processes}
 use Rattle.board.specs.declared.Board.{Board}
 use Rattle.board.specs.Board.{Boarded}
-use Rattle.course.specs.Course.{no-event, last-event, Moment, Bus, bus, heard-by, begun-by, begins-by, slot-at-by, filled, fill-by, serve-by, come-by, next-slot, event-by, pending-in, hears, begins-with, serves, waiting, moves, next}
+use Rattle.course.specs.Course.{no-event, last-event, Moment, Bus, bus, heard-by, begun-by, begins-by, slot-at-by, filled, fill-by, serve-by, come-by, next-slot, event-by, pending-in, hears, begins-with, serves, waiting, moves, next, notes-below, note-by, notes}
 use Rattle.course.proofs.Ahead.{come-after, come-flight, come-busy, event-come, event-slot, event-after, First, found, missing, first-below}
+use Rattle.course.proofs.Noting.{notes-long, notes-at}
 use Rattle.course.proofs.Standing.{Slot-end, past, ahead, slot-end-later, At}
 
 plus-one : (x : ℕ) → x + 1 ≡ suc x
@@ -147,6 +148,7 @@ module _ (p : Lines) (passes : plan-refusal p ≡ nothing) (c : List Bool) (coun
     record Served (r : Bus) : Type 0 where
       held : Held p (log-at p c (suc t)) (r .comes) (r .place)
       processes : (i : ℕ) → i < length (p .processes) → getD (r .comes) i 0 ≡ getD (e .comes) i 0
+      over-stays : (q : ℕ) → getD (r .comes) q 0 ≤ suc t → getD (r .comes) q 0 ≡ getD (e .comes) q 0
       flying : (q : ℕ) → length (p .processes) ≤ q → (getD (r .comes) q 0 ≤ suc t) ⊎ (getD (r .comes) q 0 ≡ r .flight)
       flight-end : (w : ℕ) → t < w → Slot-end p w (r .flight)
       telling : (k : ℕ) → k < length (p .conditions) → (getD (r .comes) (condition-row p k) 0 ≤ suc t) ⊎ (getD (r .comes) (condition-row p k) 0 ≡ r .told)
@@ -159,7 +161,12 @@ module _ (p : Lines) (passes : plan-refusal p ≡ nothing) (c : List Bool) (coun
     item-flying q l = subst (λ (x : ℕ). (x ≤ suc t) ⊎ (x ≡ m .flight)) (sym (started .items q l)) (s .flying q l)
 
     item-telling : (k : ℕ) → k < length (p .conditions) → (getD (e .comes) (condition-row p k) 0 ≤ suc t) ⊎ (getD (e .comes) (condition-row p k) 0 ≡ m .told)
-    item-telling k l = subst (λ (x : ℕ). (x ≤ suc t) ⊎ (x ≡ m .told)) (sym (started .items (condition-row p k) (omega arith))) (s .telling k l)
+    item-telling k l = subst (λ (x : ℕ). (x ≤ suc t) ⊎ (x ≡ m .told)) (sym (started .items (condition-row p k) (omega arith))) (at (s .telling k l))
+      where
+        at : (getD (m .comes) (condition-row p k) 0 ≤ t) ⊎ (getD (m .comes) (condition-row p k) 0 ≡ m .told) →
+            (getD (m .comes) (condition-row p k) 0 ≤ suc t) ⊎ (getD (m .comes) (condition-row p k) 0 ≡ m .told)
+        at (inl x) = inl (omega arith)
+        at (inr x) = inr x
 
     -- the state after the tick, by the slots that begin at it
     log-with : (bs : List Slot) → beginning p t ≡ bs → log-at p c (suc t) ≡ (each (takes p v t) bs ++ starts p v t) ++ log
@@ -179,6 +186,7 @@ module _ (p : Lines) (passes : plan-refusal p ≡ nothing) (c : List Bool) (coun
         record {
           held = subst (λ (l : Log). Held p l (e .comes) (m .place)) (sym (log-with [] q)) (started .held);
           processes = λ i l. refl;
+          over-stays = λ q l. refl;
           flying = item-flying;
           flight-end = λ w l. slot-end-later p t w (m .flight) (omega arith) (s .flight-end);
           telling = item-telling;
@@ -206,6 +214,10 @@ module _ (p : Lines) (passes : plan-refusal p ≡ nothing) (c : List Bool) (coun
 
       new-end : (w : ℕ) → t < w → Slot-end p w end
       new-end w x = ahead sl t in-slots begun x lasts
+
+      stays-at : (q : ℕ) → getD (l .comes) q 0 ≤ suc t → (getD (l .comes) q 0 ≡ getD (e .comes) q 0) ⊎ ((getD (l .comes) q 0 ≡ end) × (0 < l .used)) → getD (l .comes) q 0 ≡ getD (e .comes) q 0
+      stays-at q x (inl a) = a
+      stays-at q x (inr a) = absurd (let y = slot-ticks-one p g sl in-slots in let z = a .0 in omega (arith, lasts))
 
       flying : (q : ℕ) → length (p .processes) ≤ q → (getD (l .comes) q 0 ≤ suc t) ⊎ (getD (l .comes) q 0 ≡ (if eqb (l .used) 0 then m .flight else end))
       flying q x = at (k .rows q) (item-flying q x) (two (eqb (l .used) 0))
@@ -272,6 +284,7 @@ module _ (p : Lines) (passes : plan-refusal p ≡ nothing) (c : List Bool) (coun
           record {
             held = subst (λ (x : Log). Held p x (l .comes) (l .place)) log-took (k .held);
             processes = k .processes;
+            over-stays = λ q x. stays-at q x (k .rows q);
             flying = flying;
             flight-end = flight-after (eqb (l .used) 0);
             telling = telling;
@@ -538,6 +551,63 @@ module _ (p : Lines) (passes : plan-refusal p ≡ nothing) (c : List Bool) (coun
       or-later x y (inl l) = inl (omega (arith, on, s .clock))
       or-later x y (inr q) = inr q
 
+      or-before : (x y : ℕ) → (x ≤ suc t) ⊎ (x ≡ y) → (x ≤ t′) ⊎ (x ≡ y)
+      or-before x y (inl l) = inl (omega (arith, on, s .clock))
+      or-before x y (inr q) = inr q
+
+      -- a value that is known before the next event was known by this one
+      known-now : (k : ℕ) → getD (after .comes) (condition-row p k) 0 ≤ t′ → (getD (after .comes) (condition-row p k) 0 ≤ suc t) × (getD (after .comes) (condition-row p k) 0 ≡ getD (m .comes) (condition-row p k) 0)
+      known-now k x =
+          let y : getD (after .comes) (condition-row p k) 0 ≤ suc t = at (clear (condition-row p k)) in
+          (y, served .over-stays (condition-row p k) y ∙ started .items (condition-row p k) (omega arith))
+        where
+          at : (getD (after .comes) (condition-row p k) 0 ≤ suc t) ⊎ (come ≤ getD (after .comes) (condition-row p k) 0) → getD (after .comes) (condition-row p k) 0 ≤ suc t
+          at (inl y) = y
+          at (inr y) = absurd (omega (arith, not-after, on, s .clock))
+
+      abbrev Noted : List ℕ → ℕ → ℕ → ℕ → Type 0
+      Noted noted x k n = getD noted (k * 8 + n) 0 ≡ length (keep (eqb n) (before p c (x - 1) .passed))
+
+      -- and its counts are noted
+      noted-at : (k : ℕ) → k < length (p .conditions) → (x : ℕ) → x ≡ getD (m .comes) (condition-row p k) 0 → 0 < x → x ≤ suc t → (n : ℕ) → n < length (p .slots) → Noted (notes b unmet m) x k n
+      unfolding notes note-by
+      noted-at k l x q z y n w = at (two (eqb (m .told) (m .u))) (two (eqb x (suc t)))
+        where
+          row : getD (m .comes) (b .tell + k) 0 ≡ x
+          row = ap (λ (r : ℕ). getD (m .comes) (r + k) 0) tell-count ∙ sym q
+
+          row-test : eqb (getD (m .comes) (b .tell + k) 0) (m .u) ≡ eqb x (suc t)
+          row-test = λ i. eqb (row i) (s .clock i)
+
+          old : x ≤ t → Noted (m .noted) x k n
+          old a = subst (λ (v : ℕ). Noted (m .noted) v k n) (sym q) (s .noting k l (omega (arith, q)) (omega (arith, q)) n w)
+
+          below-now : getD (notes-below (m .comes) (m .u) (b .tell) (m .passed) (b .conditions) (m .noted)) (k * 8 + n) 0 ≡ (if eqb (getD (m .comes) (b .tell + k) 0) (m .u) then getD (m .passed) n 0 else getD (m .noted) (k * 8 + n) 0)
+          below-now =
+              notes-at (m .comes) (m .u) (b .tell) (m .passed) (m .noted) (s .passed-long) (s .noted-long) (b .conditions) k n (o .few-conditions) (omega (arith, o .conditions-count)) (let v = g .few-slots in omega arith)
+
+          at : (eqb (m .told) (m .u) ≡ true) ⊎ (eqb (m .told) (m .u) ≡ false) → (eqb x (suc t) ≡ true) ⊎ (eqb x (suc t) ≡ false) →
+              Noted (if eqb (m .told) (m .u) then notes-below (m .comes) (m .u) (b .tell) (m .passed) (b .conditions) (m .noted) else m .noted) x k n
+          at (inl a) (inl d) =
+              let v : x ≡ suc t = eqb-true x (suc t) d in
+              let i : x - 1 ≡ t = omega arith in
+              rw a (below-now ∙ rw (row-test ∙ d) (s .counts n w ∙ ap (λ (y : ℕ). length (keep (eqb n) (before p c y .passed))) (sym i)))
+          at (inl a) (inr d) = rw a (below-now ∙ rw (row-test ∙ d) (old (let v = eqb-false x (suc t) d in omega (arith, v))))
+          at (inr a) (inl d) = absurd (go (s .telling k l))
+            where
+              go : (getD (m .comes) (condition-row p k) 0 ≤ t) ⊎ (getD (m .comes) (condition-row p k) 0 ≡ m .told) → ⊥
+              go (inl v) = absurd (let i = eqb-true x (suc t) d in omega (arith, q))
+              go (inr v) = clash (eq-eqb (m .told) (m .u) (sym v ∙ sym q ∙ eqb-true x (suc t) d ∙ sym (s .clock))) a
+          at (inr a) (inr d) = rw a (old (let v = eqb-false x (suc t) d in omega (arith, v)))
+
+      noted-length : length (notes b unmet m) ≡ 48
+      unfolding notes note-by
+      noted-length = at (eqb (m .told) (m .u))
+        where
+          at : (q : Bool) → length (if q then notes-below (m .comes) (m .u) (b .tell) (m .passed) (b .conditions) (m .noted) else m .noted) ≡ 48
+          at true = notes-long (m .comes) (m .u) (b .tell) (m .passed) (m .noted) (s .passed-long) (s .noted-long) (b .conditions)
+          at false = s .noted-long
+
       pub at-next : At p c (next b unmet m .u - 1) (next b unmet m)
       unfolding next moves
       at-next =
@@ -547,10 +617,14 @@ module _ (p : Lines) (passes : plan-refusal p ≡ nothing) (c : List Bool) (coun
             ends = busy-later p (after .comes) (e .busy) (suc t) (suc t′) (omega (arith, on, s .clock)) (busy-rows p (e .comes) (after .comes) (e .busy) (suc t) (served .processes) (started .ends));
             flying = λ r l. or-later (getD (after .comes) r 0) (after .flight) (served .flying r l);
             flight-end = served .flight-end t′ (omega (arith, on, s .clock));
-            telling = λ k l. or-later (getD (after .comes) (condition-row p k) 0) (after .told) (served .telling k l);
+            telling = λ k l. or-before (getD (after .comes) (condition-row p k) 0) (after .told) (served .telling k l);
             told-end = served .told-end t′ (omega (arith, on, s .clock));
             running = running;
             resting = resting;
             counts = λ n l. served .counts n l ∙ ap (λ (z : State). length (keep (eqb n) (z .passed))) (sym settled);
             passed-long = served .passed-long;
+            noting = λ k l z x n w.
+                let y = known-now k x in
+                noted-at k l (getD (after .comes) (condition-row p k) 0) (y .1) z (y .0) n w;
+            noted-long = noted-length;
           }

@@ -1,6 +1,6 @@
 -- What the arrays hold where planning stands at an event: the log before its tick, and what the clocks of the slot under way and of the next row over say of it.
 -- Assumes nothing.
-use Prim.Native.Nat.{ℕ, suc, _+_, _≤_, _<_}
+use Prim.Native.Nat.{ℕ, suc, _+_, _-_, _*_, _≤_, _<_}
 use mathlib.Core.Path.{_≡_}
 use mathlib.Core.Logic.{_⊎_, inl, inr}
 use mathlib.Core.Bool.{Bool, true, false}
@@ -36,9 +36,12 @@ pub record At (p : Lines) (c : List Bool) (t : ℕ) (m : Moment) : Type 0 where
   pub ends : Busy p (m .comes) (m .busy) (suc t)
   pub flying : (r : ℕ) → length (p .processes) ≤ r → (getD (m .comes) r 0 ≤ suc t) ⊎ (getD (m .comes) r 0 ≡ m .flight)
   pub flight-end : Slot-end p t (m .flight)
-  pub telling : (k : ℕ) → k < length (p .conditions) → (getD (m .comes) (condition-row p k) 0 ≤ suc t) ⊎ (getD (m .comes) (condition-row p k) 0 ≡ m .told)
+  pub telling : (k : ℕ) → k < length (p .conditions) → (getD (m .comes) (condition-row p k) 0 ≤ t) ⊎ (getD (m .comes) (condition-row p k) 0 ≡ m .told)
   pub told-end : Slot-end p t (m .told)
   pub running : eqb (m .told) (m .u) ≡ false → Runs (m .run) (may-run p (known p c (came-by (m .comes) (suc t))))
   pub resting : eqb (m .come) (m .u) ≡ false → starts p (view-at p c t) t ≡ []
   pub counts : (n : ℕ) → n < length (p .slots) → getD (m .passed) n 0 ≡ length (keep (eqb n) (before p c t .passed))
   pub passed-long : length (m .passed) ≡ 8
+  pub noting : (k : ℕ) → k < length (p .conditions) → 0 < getD (m .comes) (condition-row p k) 0 → getD (m .comes) (condition-row p k) 0 ≤ t → (n : ℕ) → n < length (p .slots) →
+      getD (m .noted) (k * 8 + n) 0 ≡ length (keep (eqb n) (before p c (getD (m .comes) (condition-row p k) 0 - 1) .passed))
+  pub noted-long : length (m .noted) ≡ 48

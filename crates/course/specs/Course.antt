@@ -1,12 +1,13 @@
 -- The planning of one combination from event to event, in the words of the arrays: what an event does, when the next one is, and where a run of
 -- events leads. The clock is the tick plus 1.
 -- Assumes nothing.
-use Prim.Native.Nat.{ℕ, zero, suc, _+_, _-_, _≤_, _<_}
+use Prim.Native.Nat.{ℕ, zero, suc, _+_, _-_, _*_, _≤_, _<_}
 use mathlib.Core.Path.{_≡_}
 use mathlib.Core.Bool.{Bool}
 use mathlib.Core.List.{List, [], _∷_, map}
 use lib.Dec.{eqb, leb, ltb}
 use lib.ListN.{getD, set, replicate}
+use lib.Seq.{sets}
 use Rattle.lists.specs.Lists.{if_then_else_, below, greatest}
 use Rattle.readiness.specs.Reading.{may-run-by, Within}
 use Rattle.timetable.specs.Bus.{beginning-at}
@@ -24,7 +25,7 @@ last-event = 1000000000
 
 -- Planning stands at an event. `come`: the clock at which a row is next over, as it was found at the event before. `flight` and `told`: the end of the last
 -- slot used, and of the last one with a broadcast. `run`: which processes may run. `busy`, by node: the end of its last process. `comes` and `place`, by row.
--- `passed`, by node: in how many of its slots a ready item was not taken.
+-- `passed`, by node: in how many of its slots a ready item was not taken. `noted`, by condition and node: the same when the value of the condition became known.
 pub record Moment : Type 0 where
   pub u : ℕ
   pub come : ℕ
@@ -35,11 +36,22 @@ pub record Moment : Type 0 where
   pub comes : List ℕ
   pub place : List ℕ
   pub passed : List ℕ
+  pub noted : List ℕ
 
 -- What may run is worked out again where a value becomes known.
 unfoldable pub heard-by : ℕ → ℕ → ℕ → List ℕ → List ℕ → List ℕ → List ℕ → List ℕ → List ℕ → List ℕ → List ℕ → List ℕ
 heard-by told u processes from cue unmet comes several intofirst into run =
     if eqb told u then may-run-by from cue unmet comes u several intofirst into processes else run
+
+-- The counts are noted for the conditions below n whose values become known at the clock; and where any does.
+unfoldable pub notes-below : List ℕ → ℕ → ℕ → List ℕ → ℕ → List ℕ → List ℕ
+notes-below comes u tell passed zero noted = noted
+notes-below comes u tell passed (suc k) noted =
+    let before : List ℕ = notes-below comes u tell passed k noted in
+    if eqb (getD comes (tell + k) 0) u then sets before (k * 8) passed else before
+
+unfoldable pub note-by : ℕ → ℕ → List ℕ → ℕ → List ℕ → ℕ → List ℕ → List ℕ
+note-by told u comes tell passed conditions noted = if eqb told u then notes-below comes u tell passed conditions noted else noted
 
 -- Each free node starts, where a row is over at the clock.
 unfoldable pub begun-by : ℕ → ℕ → List ℕ → List ℕ → List ℕ → List ℕ → List ℕ → List ℕ → List ℕ → List ℕ → ℕ → List ℕ → List ℕ → List ℕ → ℕ → Ends → Ends
@@ -137,8 +149,11 @@ module _ (b : Board) (unmet : List ℕ) where
   unfoldable pub waiting : List ℕ → ℕ → ℕ → Bool
   waiting comes u n = pending-in (b .processes) (b .tell) (b .conditions) (b .decider) (b .node) (b .queuefirst) (b .queue) (b .from) (b .cue) unmet comes u n
 
-  unfoldable pub moves : List ℕ → List ℕ → Bus → ℕ → Moment
-  moves run busy s u =
+  unfoldable pub notes : Moment → List ℕ
+  notes m = note-by (m .told) (m .u) (m .comes) (b .tell) (m .passed) (b .conditions) (m .noted)
+
+  unfoldable pub moves : List ℕ → List ℕ → List ℕ → Bus → ℕ → Moment
+  moves noted run busy s u =
       let come : ℕ = come-by (s .flight) busy u (b .slots) in
       record {
         u = event-by (waiting (s .comes) u) (b .round) (b .offset) u come (b .slots);
@@ -150,13 +165,14 @@ module _ (b : Board) (unmet : List ℕ) where
         comes = s .comes;
         place = s .place;
         passed = s .passed;
+        noted = noted;
       }
 
   unfoldable pub next : Moment → Moment
   next m =
       let run : List ℕ = hears m in
       let e : Ends = begins-with run m in
-      moves run (e .busy) (serves (e .comes) m) (m .u)
+      moves (notes m) run (e .busy) (serves (e .comes) m) (m .u)
 
   -- events one after another, until the clock is past the last
   pub data Leads : Moment → Moment → Type 0 where
@@ -164,18 +180,19 @@ module _ (b : Board) (unmet : List ℕ) where
     on : (m e : Moment) → m .u ≤ last-event → Leads (next m) e → Leads m e
 
   -- where planning ends: the last end of a process, and the arrays
-  pub record Ended (start : Moment) (latest : ℕ) (comes place passed : List ℕ) : Type 0 where
+  pub record Ended (start : Moment) (latest : ℕ) (comes place passed noted : List ℕ) : Type 0 where
     pub end : Moment
     pub leads : Leads start end
     pub last : latest ≡ greatest (map (λ n. getD (end .busy) n 0) (below (b .slots)))
     pub rows : comes ≡ end .comes
     pub places : place ≡ end .place
     pub counts : passed ≡ end .passed
+    pub notes-end : noted ≡ end .noted
 
 -- planning from a clock on: what may run is not known yet
-unfoldable pub from-clock : ℕ → ℕ → List ℕ → List ℕ → List ℕ → List ℕ → Moment
-from-clock u flight busy comes place passed =
-    record { u = u; come = u; flight = flight; told = u; run = replicate 64 0; busy = busy; comes = comes; place = place; passed = passed }
+unfoldable pub from-clock : ℕ → ℕ → List ℕ → List ℕ → List ℕ → List ℕ → List ℕ → Moment
+from-clock u flight busy comes place passed noted =
+    record { u = u; come = u; flight = flight; told = u; run = replicate 64 0; busy = busy; comes = comes; place = place; passed = passed; noted = noted }
 
 -- what the arrays index and how large their numbers are
 pub record Fits (b : Board) : Type 0 where

@@ -7,12 +7,81 @@ use readiness::may_run;
 use starting::starts;
 use timetable::first_beginning;
 ghost use mathlib.Core.Path.{_≡_};
-ghost use Prim.Native.Nat.{ℕ, _+_, _<_, _≤_};
+ghost use Prim.Native.Nat.{ℕ, _+_, _*_, _<_, _≤_};
 ghost use mathlib.Core.List.{map};
-ghost use lib.ListN.{getD, replicate};
-ghost use Rattle.lists.specs.Lists.{below, greatest};
+ghost use lib.Dec.{eqb};
+ghost use lib.ListN.{length, getD, replicate};
+ghost use lib.Seq.{sets};
+ghost use Rattle.lists.specs.Lists.{if_then_else_, below, greatest};
 ghost use Rattle.readiness.specs.Reading.{Within};
-ghost use Rattle.course.specs.Course.{bus, heard-by, begun-by, slot-at-by, fill-by, serve-by, sooner-by, come-by, pending-in, nearer-by, event-by, Ended, from-clock, Fits, board-of};
+ghost use Rattle.course.specs.Course.{bus, notes-below, note-by, heard-by, begun-by, slot-at-by, fill-by, serve-by, sooner-by, come-by, pending-in, nearer-by, event-by, Ended, from-clock, Fits, board-of};
+
+// Stores the counts of the nodes, from place `at` on.
+fn put_counts(passed: &[u32; 8], at: usize, noted: &mut [u32; 48])
+    requires { ⌜ (at ≤ 40) × (length (now passed) ≡ 8) ⌝ }
+    ensures { λ _. ⌜ now (noted .exit) ≡ sets (now (noted .entry)) at (now (passed .entry)) ⌝ }
+{
+    let mut n: usize = 0;
+    while n < 8 {
+        noted[at + n] = passed[n];
+        n += 1;
+    }
+}
+
+// Notes the counts for condition k, if its value becomes known at clock u.
+fn note_one<'a>(
+    comes: &'a [u32; 198],
+    u: u32,
+    tell: usize,
+    k: usize,
+    passed: &'a [u32; 8],
+    noted: &mut [u32; 48],
+)
+    requires { ⌜ (tell ≤ 192) × (k < 6) × (length (now passed) ≡ 8) ⌝ }
+    ensures { λ _. ⌜ now (noted .exit) ≡ (if eqb (getD (now (comes .entry)) (tell + k) 0) u then sets (now (noted .entry)) (k * 8) (now (passed .entry)) else now (noted .entry)) ⌝ }
+{
+    if comes[tell + k] == u {
+        put_counts(passed, k * 8, noted);
+    }
+}
+
+// Notes the counts for each condition whose value becomes known at clock u.
+fn note_all<'a>(
+    u: u32,
+    tell: usize,
+    conditions: usize,
+    comes: &'a [u32; 198],
+    passed: &'a [u32; 8],
+    noted: &mut [u32; 48],
+)
+    requires { ⌜ (tell ≤ 192) × (conditions ≤ 6) × (length (now passed) ≡ 8) ⌝ }
+    ensures { λ _. ⌜ now (noted .exit) ≡ notes-below (now (comes .entry)) u tell (now (passed .entry)) conditions (now (noted .entry)) ⌝ }
+{
+    let mut k: usize = 0;
+    while k < conditions {
+        note_one(comes, u, tell, k, passed, noted);
+        k += 1;
+    }
+}
+
+// Notes the counts for the conditions whose values become known at this clock. Where no broadcast ends, there are none.
+fn note<'a>(
+    told: u32,
+    u: u32,
+    tell: usize,
+    conditions: usize,
+    comes: &'a [u32; 198],
+    passed: &'a [u32; 8],
+    noted: &mut [u32; 48],
+)
+    requires { ⌜ (tell ≤ 192) × (conditions ≤ 6) × (length (now passed) ≡ 8) ⌝ }
+    ensures { λ _. ⌜ now (noted .exit) ≡ note-by told u (now (comes .entry)) tell (now (passed .entry)) conditions (now (noted .entry)) ⌝ }
+{
+    if told != u {
+        return;
+    }
+    note_all(u, tell, conditions, comes, passed, noted);
+}
 
 // Which processes may run: worked out again where a value becomes known at this clock.
 fn heard<'a>(
@@ -408,9 +477,10 @@ fn events<'a>(
     comes: &mut [u32; 198],
     place: &mut [u32; 198],
     passed: &mut [u32; 8],
+    noted: &mut [u32; 48],
 ) -> u32
-    requires { ⌜ Fits (board-of processes tell conditions slots (now node) (now ticks) (now several) (now from) (now cue) (now remote) (now bytes) (now decider) (now intofirst) (now into) (now turnfirst) (now turn) (now queuefirst) (now queue) round (now offset) (now lasts) (now rooms)) × (1 ≤ start) × ((k : ℕ) → getD (now passed) k 0 ≤ start) ⌝ }
-    ensures { λ r. ⌜ Ended (board-of processes tell conditions slots (now (node .entry)) (now (ticks .entry)) (now (several .entry)) (now (from .entry)) (now (cue .entry)) (now (remote .entry)) (now (bytes .entry)) (now (decider .entry)) (now (intofirst .entry)) (now (into .entry)) (now (turnfirst .entry)) (now (turn .entry)) (now (queuefirst .entry)) (now (queue .entry)) round (now (offset .entry)) (now (lasts .entry)) (now (rooms .entry))) (now (unmet .entry)) (from-clock start flight ends (now (comes .entry)) (now (place .entry)) (now (passed .entry))) r (now (comes .exit)) (now (place .exit)) (now (passed .exit)) ⌝ }
+    requires { ⌜ Fits (board-of processes tell conditions slots (now node) (now ticks) (now several) (now from) (now cue) (now remote) (now bytes) (now decider) (now intofirst) (now into) (now turnfirst) (now turn) (now queuefirst) (now queue) round (now offset) (now lasts) (now rooms)) × (1 ≤ start) × ((k : ℕ) → getD (now passed) k 0 ≤ start) × (length (now passed) ≡ 8) ⌝ }
+    ensures { λ r. ⌜ Ended (board-of processes tell conditions slots (now (node .entry)) (now (ticks .entry)) (now (several .entry)) (now (from .entry)) (now (cue .entry)) (now (remote .entry)) (now (bytes .entry)) (now (decider .entry)) (now (intofirst .entry)) (now (into .entry)) (now (turnfirst .entry)) (now (turn .entry)) (now (queuefirst .entry)) (now (queue .entry)) round (now (offset .entry)) (now (lasts .entry)) (now (rooms .entry))) (now (unmet .entry)) (from-clock start flight ends (now (comes .entry)) (now (place .entry)) (now (passed .entry)) (now (noted .entry))) r (now (comes .exit)) (now (place .exit)) (now (passed .exit)) (now (noted .exit)) ⌝ }
 {
     let mut run = none();
     let mut busy = ends;
@@ -419,6 +489,7 @@ fn events<'a>(
     let mut come = start;
     let mut u = start;
     while u <= 1000000000 {
+        note(told, u, tell, conditions, comes, passed, noted);
         run = heard(
             told,
             u,
@@ -501,7 +572,8 @@ fn events<'a>(
 }
 
 // Plans one combination from clock `start` on, where the arrays hold what was placed before: by row when it is over and its place, by node in how many slots
-// a ready item was not taken. `unmet` has 1 for each edge whose `when` the combination does not meet. The answer is the last end of a process.
+// a ready item was not taken, and by condition and node (condition times 8 plus node) the same when the condition's value became known. `unmet` has 1 for
+// each edge whose `when` the combination does not meet. The answer is the last end of a process.
 pub fn course(
     b: Board,
     unmet: [u32; 128],
@@ -511,9 +583,10 @@ pub fn course(
     comes: &mut [u32; 198],
     place: &mut [u32; 198],
     passed: &mut [u32; 8],
+    noted: &mut [u32; 48],
 ) -> u32
-    requires { ⌜ Fits b × (1 ≤ start) × ((k : ℕ) → getD (now passed) k 0 ≤ start) ⌝ }
-    ensures { λ r. ⌜ Ended b unmet (from-clock start flight ends (now (comes .entry)) (now (place .entry)) (now (passed .entry))) r (now (comes .exit)) (now (place .exit)) (now (passed .exit)) ⌝ }
+    requires { ⌜ Fits b × (1 ≤ start) × ((k : ℕ) → getD (now passed) k 0 ≤ start) × (length (now passed) ≡ 8) ⌝ }
+    ensures { λ r. ⌜ Ended b unmet (from-clock start flight ends (now (comes .entry)) (now (place .entry)) (now (passed .entry)) (now (noted .entry))) r (now (comes .exit)) (now (place .exit)) (now (passed .exit)) (now (noted .exit)) ⌝ }
 {
     events(
         b.processes,
@@ -545,5 +618,6 @@ pub fn course(
         comes,
         place,
         passed,
+        noted,
     )
 }

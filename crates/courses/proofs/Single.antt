@@ -1,34 +1,34 @@
--- The plan of one combination: a board of a plan can be planned on, and where a run of events from the beginning leads is the combination's plan.
+-- The plan of one combination: a board of a plan can be planned on, and where a run of events leads from a clock at which the arrays hold what is placed
+-- before it is the combination's plan.
 -- Assumes nothing.
-use mathlib.Core.Path.{_≡_, sym, ap, _∙_, subst}
-use mathlib.Core.List.{List, [], map}
-use Prim.Native.Nat.{ℕ, _+_, _-_, _*_, _^_, _≤_, _<_}
+use mathlib.Core.Path.{_≡_, refl, sym, ap, _∙_, subst}
+use mathlib.Core.Bool.{Bool, true, false}
+use mathlib.Core.List.{List, [], _∷_, map, List·Memᴰ as In, List·Memᴰ·head as here}
+use Prim.Native.Nat.{ℕ, zero, suc, _+_, _-_, _*_, _^_, _≤_, _<_}
 use native.Mathlib.Omega.{arith}
 use lib.Dec.{eqb}
-use lib.ListN.{length, getD, replicate}
+use lib.ListN.{length, getD, replicate, length-append, length-map}
 use lib.Seq.{sets}
-use Rattle.lists.specs.Lists.{keep, below, greatest}
-use Rattle.lists.proofs.Members.{in-getD}
+use Rattle.lists.specs.Lists.{if_then_else_, keep, below, greatest}
 use Rattle.lists.proofs.Parts.{keep-short}
-use Rattle.model.specs.Plan.{Lines}
-use Rattle.model.specs.Activity.{combinations}
-use Rattle.model.specs.Bus.{rows}
-use Rattle.model.specs.Planning.{bound, planned}
+use Rattle.model.specs.Plan.{Lines, Slot}
+use Rattle.model.specs.Bus.{condition-row, beginning}
+use Rattle.model.specs.Planning.{View, passes-over, step, before, bound, planned}
 use Rattle.model.specs.Refusals.{nothing, plan-refusal}
 use Rattle.laws.proofs.Good.{Good, good}
-use Rattle.laws.proofs.Combinations.{combination-length}
-use Rattle.laws.proofs.Events.{passed-few}
-use Rattle.mask.proofs.Numbered.{combinations-count}
+use Rattle.laws.proofs.Slots.{beginning-in}
+use Rattle.laws.proofs.Steps.{view-at}
+use Rattle.laws.proofs.Events.{one-begins, passed-few}
 use Rattle.readiness.specs.Holding.{Holds, Held}
 use Rattle.board.specs.declared.Board.{Board}
 use Rattle.board.specs.Layout.{unmet-by}
 use Rattle.board.specs.Board.{Boarded}
 use Rattle.course.specs.Course.{Moment, Ended, from-clock, Fits}
-use Rattle.course.proofs.Standing.{At}
 use Rattle.course.proofs.Planned.{first-at, Plans, leads-planned, delay-planned}
 use Rattle.entries.specs.Logs.{numbered}
-use Rattle.courses.specs.Courses.{added, log-of, delay-of, passes-of, One}
+use Rattle.courses.specs.Courses.{added, log-of, delay-of, passes-by, passes-of, Ready, Stored}
 use Rattle.courses.proofs.Adding.{added-at, added-long}
+use Rattle.courses.proofs.Sources.{width}
 
 -- the arrays of a board index each other, and their numbers are small
 pub fits : (p : Lines) (b : Board) → Boarded p b → Fits b
@@ -53,65 +53,126 @@ fits p b o =
       offset-most = λ n l. o .offset-most n (omega arith);
     }
 
+-- where planning of a combination stands at a clock, the clock is 1 or more and there are eight counts
+pub ready-start : (p : Lines) (c start : ℕ) (ends rows places counts noted : List ℕ) → Ready p c start ends rows places counts noted → 1 ≤ start
+unfolding from-clock
+ready-start p c start ends rows places counts noted r = omega (arith, r .at-tick .clock)
+
+pub ready-long : (p : Lines) (c start : ℕ) (ends rows places counts noted : List ℕ) → Ready p c start ends rows places counts noted → length counts ≡ 8
+unfolding from-clock
+ready-long p c start ends rows places counts noted r = r .at-tick .passed-long
+
+-- from the beginning
+pub ready-first : (p : Lines) (c : ℕ) (ends rows places counts noted : List ℕ) → ends ≡ replicate 8 0 → rows ≡ replicate 198 0 → places ≡ replicate 198 0 → counts ≡ replicate 8 0 → noted ≡ replicate 48 0 →
+    Ready p c 1 ends rows places counts noted
+ready-first p c ends rows places counts noted ea ra pa ca na = record { tick = 0; at-tick = rw (ea, ra, pa, ca, na) (first-at p (numbered p c)) }
+
 -- combination c is planned, in arrays of its own
-pub record Course (p : Lines) (c latest : ℕ) (rows places counts : List ℕ) : Type 0 where
+pub record Course (p : Lines) (c latest : ℕ) (rows places counts noted : List ℕ) : Type 0 where
   pub held : Held p (log-of p c) rows places
   pub delay : latest - 1 ≡ delay-of p c
   pub counted : (n : ℕ) → n < length (p .slots) → getD counts n 0 ≡ passes-of p n c
   pub counts-long : length counts ≡ 8
+  pub noting : (k : ℕ) → k < length (p .conditions) → 0 < getD rows (condition-row p k) 0 → (m : ℕ) → m < length (p .slots) →
+      getD noted (k * 8 + m) 0 ≡ passes-by p m c (getD rows (condition-row p k) 0 - 1)
+  pub noted-long : length noted ≡ 48
+
+short : {A : Type 0} (f : A → Bool) (xs : List A) → length (keep f xs) ≤ length xs
+short f [] = omega arith
+short f (x ∷ xs) = by (f x) (short f xs)
+  where
+    by : (b : Bool) → length (keep f xs) ≤ length xs → length (if b then (x ∷ keep f xs) else keep f xs) ≤ suc (length xs)
+    by true r = omega arith
+    by false r = omega arith
 
 module _ (p : Lines) (passes : plan-refusal p ≡ nothing) where
-  width : (c : ℕ) → c < 2 ^ length (p .conditions) → length (numbered p c) ≡ length (p .conditions)
-  width c l = combination-length p (numbered p c) (in-getD (combinations p) c [] (omega (arith, combinations-count (length (p .conditions)))))
+  abbrev g : Good p
+  g = good p passes
 
   -- a node passes an item over at most once for each row
   pub passes-few : (n c : ℕ) → c < 2 ^ length (p .conditions) → length (keep (eqb n) (planned p (numbered p c) .passed)) ≤ 198
   unfolding planned
   passes-few n c l =
-      let g : Good p = good p passes in
       omega (
         arith,
         keep-short (eqb n) (planned p (numbered p c) .passed),
-        passed-few p (numbered p c) g (width c l) (bound p),
+        passed-few p (numbered p c) g (width p c l) (bound p),
         g .few-processes,
         g .few-edges,
         g .few-conditions,
       )
 
+  -- at most one slot begins at a tick, so that at most one passes an item over
+  begins-few : (t : ℕ) → length (beginning p t) ≤ 1
+  begins-few t = at (beginning p t) refl
+    where
+      at : (bs : List Slot) → beginning p t ≡ bs → length (beginning p t) ≤ 1
+      at [] q = omega (arith, ap (λ (xs : List Slot). length xs) q)
+      at (b ∷ bs) q =
+          let r = beginning-in p t (subst (λ (xs : List Slot). In b xs) (sym q) (here refl)) in
+          omega (arith, ap (λ (xs : List Slot). length xs) (one-begins p g t b (r .0) (r .1)))
+
+  passed-late : (c : List Bool) (t : ℕ) → length (before p c t .passed) ≤ t
+  unfolding before step
+  passed-late c zero = omega arith
+  passed-late c (suc t) =
+      let v : View = view-at p c t in
+      omega (
+        arith,
+        passed-late c t,
+        length-append (map (λ b. b .node) (keep (passes-over p v t) (beginning p t))) (before p c t .passed),
+        length-map (keep (passes-over p v t) (beginning p t)) (λ b. b .node),
+        short (passes-over p v t) (beginning p t),
+        begins-few t,
+      )
+
+  pub passes-late : (n c t : ℕ) → length (keep (eqb n) (before p (numbered p c) t .passed)) ≤ t
+  passes-late n c t = omega (arith, keep-short (eqb n) (before p (numbered p c) t .passed), passed-late (numbered p c) t)
+
   module _ (b : Board) (o : Boarded p b) where
-    -- where a run of events from the beginning leads
+    -- where a run of events leads
     pub course-of : (c : ℕ) → c < 2 ^ length (p .conditions) → (unmet : List ℕ) → unmet ≡ unmet-by (b .kind) (b .condition) (b .edges) c →
-        (ends no-rows no-places no-counts : List ℕ) → ends ≡ replicate 8 0 → no-rows ≡ replicate 198 0 → no-places ≡ replicate 198 0 → no-counts ≡ replicate 8 0 →
-        (latest : ℕ) (rows places counts : List ℕ) → Ended b unmet (from-clock 1 0 ends no-rows no-places no-counts) latest rows places counts →
-        Course p c latest rows places counts
-    course-of c l unmet q ends no-rows no-places no-counts ea ra pa ca latest rows places counts e =
+        (start : ℕ) (ends rows places counts noted : List ℕ) → Ready p c start ends rows places counts noted →
+        (latest : ℕ) (rows-after places-after counts-after noted-after : List ℕ) →
+        Ended b unmet (from-clock start 0 ends rows places counts noted) latest rows-after places-after counts-after noted-after →
+        Course p c latest rows-after places-after counts-after noted-after
+    course-of c l unmet q start ends rows places counts noted r latest rows-after places-after counts-after noted-after e =
         let h : Holds p (numbered p c) (b .from) (b .cue) unmet (b .remote) (b .several) (b .intofirst) (b .into) =
         subst (λ (xs : List ℕ). Holds p (numbered p c) (b .from) (b .cue) xs (b .remote) (b .several) (b .intofirst) (b .into)) (sym q) (o .holds c l) in
-        let begin : At p (numbered p c) 0 (from-clock 1 0 ends no-rows no-places no-counts) = rw (ea, ra, pa, ca) (first-at p (numbered p c)) in
         let f : Moment = e .end in
-        let k : Plans p passes (numbered p c) (width c l) b unmet o h (f .comes) (f .place) (f .busy) (f .passed) =
-        leads-planned p passes (numbered p c) (width c l) b unmet o h _ f (e .leads) 0 begin in
+        let k : Plans p passes (numbered p c) (width p c l) b unmet o h (f .comes) (f .place) (f .busy) (f .passed) (f .noted) =
+        leads-planned p passes (numbered p c) (width p c l) b unmet o h _ f (e .leads) (r .tick) (r .at-tick) in
         record {
           held = rw (e .rows, e .places) (k .held);
           delay =
               ap (λ (x : ℕ). x - 1) (e .last ∙ ap (λ (n : ℕ). greatest (map (λ n. getD (f .busy) n 0) (below n))) (o .slots-count))
-              ∙ delay-planned p passes (numbered p c) (width c l) b unmet o h (f .comes) (f .place) (f .busy) (f .passed) k;
+              ∙ delay-planned p passes (numbered p c) (width p c l) b unmet o h (f .comes) (f .place) (f .busy) (f .passed) (f .noted) k;
           counted = λ n m. ap (λ (xs : List ℕ). getD xs n 0) (e .counts) ∙ k .counts n m;
           counts-long = ap length (e .counts) ∙ k .passed-long;
+          noting = rw (e .rows, e .notes-end) (k .noting);
+          noted-long = ap length (e .notes-end) ∙ k .noted-long;
         }
 
-    -- its rows stored and its counts added
-    pub one-of : (c latest : ℕ) (rows places counts : List ℕ) → Course p c latest rows places counts → (comes place passed : List ℕ) → length passed ≡ 8 →
-        {comes-after place-after passed-after : List ℕ} → comes-after ≡ sets comes (c * 198) rows → place-after ≡ sets place (c * 198) places → passed-after ≡ added counts passed (b .slots) →
-        One p c latest comes place passed comes-after place-after passed-after
-    one-of c latest rows places counts k comes place passed long r s t =
+    -- its rows and notes stored and its counts added
+    pub stored-of : (c latest : ℕ) (rows places counts noted : List ℕ) → Course p c latest rows places counts noted → (comes place notes passed : List ℕ) → length passed ≡ 8 →
+        {comes-after place-after notes-between notes-after passed-after : List ℕ} → comes-after ≡ sets comes (c * 198) rows → place-after ≡ sets place (c * 198) places →
+        notes-between ≡ sets notes (c * 56) noted → notes-after ≡ sets notes-between (c * 56 + 48) counts → passed-after ≡ added counts passed (b .slots) →
+        Stored p c latest comes place notes passed comes-after place-after notes-after passed-after
+    stored-of c latest rows places counts noted k comes place notes passed long r s u v t =
         let n : b .slots ≡ length (p .slots) = o .slots-count in
         record {
           rows = rows;
           places = places;
+          noted = noted;
+          counts = counts;
           held = k .held;
+          noting = k .noting;
+          noted-long = k .noted-long;
+          counts-own = k .counted;
+          counts-long = k .counts-long;
           rows-stored = r;
           places-stored = s;
+          notes-stored = v ∙ ap (λ (xs : List ℕ). sets xs (c * 56 + 48) counts) u;
           delay = k .delay;
           counted = λ m l.
               ap (λ (xs : List ℕ). getD xs m 0) t

@@ -1,11 +1,15 @@
--- The rows of a combination are stored one by one in its part of an array: the part then holds them, and the parts before it are as they were.
+-- The rows of a combination are stored one by one in its part of an array: the part then holds them, and the parts before it are as they were. The same of
+-- its notes.
 -- Assumes nothing.
 use mathlib.Core.Path.{_≡_, refl, sym, ap, _∙_}
-use mathlib.Core.List.{List, [], _∷_, append-assoc}
-use Prim.Native.Nat.{ℕ, suc, _+_, _*_, _≤_, _<_}
+use mathlib.Core.List.{List, [], _∷_}
+use Prim.Native.Nat.{ℕ, zero, suc, _+_, _*_, _≤_, _<_}
 use native.Mathlib.Omega.{arith}
-use lib.ListN.{length, getD, set, take, drop, drop-of-length-le}
-use lib.Seq.{sets, sets-eq, take-set-le, length-take-le}
+use lib.ListN.{length, getD, set, take, drop, drop-of-length-le, length-set}
+use lib.Seq.{sets, sets-eq, take-set-le, length-take-le, length-slice, length-sets, ext-getD, getD-take, getD-drop, getD-set-same, getD-set-other}
+use mathlib.Core.List.{append-assoc}
+use Rattle.lists.specs.Lists.{fill}
+use Rattle.lists.proofs.Fill.{fill-at, fill-length}
 use Rattle.lists.proofs.Parts.{drop-one, middle}
 use Rattle.entries.specs.Logs.{block}
 
@@ -40,3 +44,41 @@ block-stored all rows c q l =
 -- an earlier one is as it was
 pub block-before : (all rows : List ℕ) (c d : ℕ) → d < c → block (sets all (c * 198) rows) d ≡ block all d
 block-before all rows c d l = ap (drop (d * 198)) (take-sets (d * 198 + 198) all (c * 198) rows (omega arith))
+
+-- what stands in combination c's part, and the part put together number by number
+pub block-at : (xs : List ℕ) (c r : ℕ) → r < 198 → getD (block xs c) r 0 ≡ getD xs (c * 198 + r) 0
+block-at xs c r l = getD-drop (c * 198) (take (c * 198 + 198) xs) r 0 ∙ getD-take (c * 198 + 198) xs (c * 198 + r) 0 (omega arith)
+
+pub block-filled : (xs : List ℕ) (c : ℕ) → c * 198 + 198 ≤ length xs → fill 198 (λ r. getD xs (c * 198 + r) 0) 198 ≡ block xs c
+block-filled xs c l =
+    let f : ℕ → ℕ = λ r. getD xs (c * 198 + r) 0 in
+    let n : length (fill 198 f 198) ≡ 198 = fill-length 198 f 198 in
+    ext-getD 0 (fill 198 f 198) (block xs c) (omega (arith, n, length-slice (c * 198) (c * 198 + 198) xs l))
+    (λ i u. fill-at 198 f 198 i (omega arith) (omega (arith, n, u)) ∙ sym (block-at xs c i (omega (arith, n, u))))
+
+-- numbers stored one after another: before the first place everything is as it was, and then they stand there
+sets-before : (xs : List ℕ) (i j : ℕ) (vs : List ℕ) → j < i → getD (sets xs i vs) j 0 ≡ getD xs j 0
+sets-before xs i j [] l = refl
+sets-before xs i j (v ∷ vs) l = sets-before (set xs i v) (suc i) j vs (omega arith) ∙ getD-set-other xs i j v 0 (λ q. absurd (omega arith))
+
+sets-at : (xs : List ℕ) (i : ℕ) (vs : List ℕ) (n : ℕ) → n < length vs → i + length vs ≤ length xs → getD (sets xs i vs) (i + n) 0 ≡ getD vs n 0
+sets-at xs i [] n l r = absurd (omega arith)
+sets-at xs i (v ∷ vs) zero l r =
+    let q : i + 0 ≡ i = omega arith in
+    ap (λ (j : ℕ). getD (sets (set xs i v) (suc i) vs) j 0) q ∙ sets-before (set xs i v) (suc i) i vs (omega arith) ∙ getD-set-same xs i v 0 (omega arith)
+sets-at xs i (v ∷ vs) (suc n) l r =
+    let q : i + suc n ≡ suc i + n = omega arith in
+    ap (λ (j : ℕ). getD (sets (set xs i v) (suc i) vs) j 0) q ∙ sets-at (set xs i v) (suc i) vs n (omega arith) (omega (arith, length-set xs i v))
+
+-- a combination's notes: what was noted for the conditions, and the last counts after it
+module _ (notes noted counts : List ℕ) (c : ℕ) (long : length noted ≡ 48) (eight : length counts ≡ 8) (room : c * 56 + 56 ≤ length notes) where
+  pub notes-own : (i : ℕ) → i < 48 → getD (sets (sets notes (c * 56) noted) (c * 56 + 48) counts) (c * 56 + i) 0 ≡ getD noted i 0
+  notes-own i l =
+      sets-before (sets notes (c * 56) noted) (c * 56 + 48) (c * 56 + i) counts (omega arith) ∙ sets-at notes (c * 56) noted i (omega (arith, long)) (omega (arith, long))
+
+  pub notes-last : (n : ℕ) → n < 8 → getD (sets (sets notes (c * 56) noted) (c * 56 + 48) counts) (c * 56 + 48 + n) 0 ≡ getD counts n 0
+  notes-last n l =
+      sets-at (sets notes (c * 56) noted) (c * 56 + 48) counts n (omega (arith, eight)) (omega (arith, eight, length-sets notes (c * 56) noted))
+
+  pub notes-others : (i : ℕ) → i < c * 56 → getD (sets (sets notes (c * 56) noted) (c * 56 + 48) counts) i 0 ≡ getD notes i 0
+  notes-others i l = sets-before (sets notes (c * 56) noted) (c * 56 + 48) i counts (omega arith) ∙ sets-before notes (c * 56) i noted (omega arith)

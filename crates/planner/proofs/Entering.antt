@@ -1,11 +1,10 @@
--- The entries that are listed from the logs of all combinations, each planned from the beginning, are those of the plan's table.
+-- The entries that are listed from the logs of all combinations are those of the plan's table.
 -- Assumes nothing.
 use mathlib.Core.Path.{_≡_, refl, sym, ap, _∙_, transport}
 use mathlib.Core.List.{List, [], _∷_, map}
 use Prim.Native.Nat.{ℕ, _+_, _^_, _<_}
 use native.Mathlib.Omega.{arith}
-use lib.ListN.{length, getD, replicate}
-use Rattle.lists.proofs.Fill.{zeros-at}
+use lib.ListN.{length}
 use Rattle.model.specs.Plan.{Lines}
 use Rattle.model.specs.Bus.{rows}
 use Rattle.model.specs.Refusals.{nothing, plan-refusal}
@@ -17,25 +16,22 @@ use Rattle.entries.specs.Logs.{entry-from, Logs}
 use Rattle.entries.proofs.Links.{readable, row-link, words-link, words-count}
 use Rattle.entries.proofs.Keys.{number-back}
 use Rattle.frames.specs.Packed.{packed-entry}
-use Rattle.planner.specs.Planner.{Logged, Some-logs, Entered}
+use Rattle.courses.specs.declared.Totals.{Totals}
+use Rattle.courses.specs.Courses.{Planned-all}
+use Rattle.planner.specs.Planner.{Some-logs, Entered}
 
--- no row is taken over from an earlier combination
-logs : (p : Lines) (b : Board) → Boarded p b → (comes place since : List ℕ) → Logged p comes place → since ≡ replicate 64 0 → Logs p comes place since (b .span)
-logs p b o comes place since h e =
-    record {
-      held = h;
-      spans = o .spans;
-      taken-over = λ r c l m n u. absurd (omega (arith, u, ap (λ (xs : List ℕ). getD xs c 0) e, zeros-at 64 c));
-    }
+-- the arrays that planning all combinations fills hold their logs
+pub logs : (p : Lines) (b : Board) → Boarded p b → (t : Totals) (comes place since : List ℕ) → Planned-all p (b .span) t comes place since → Logs p comes place since (b .span)
+logs p b o t comes place since a = record { held = a .held; spans = o .spans; taken-over = a .taken-over }
 
 -- the arrays can be read
-pub all-readable : (b : Board) (comes place since : List ℕ) → Some-logs b comes place → since ≡ replicate 64 0 → (combinations : ℕ) → combinations ≡ 2 ^ b .conditions →
+pub all-readable : (b : Board) (comes place since : List ℕ) → Some-logs b comes place since → (combinations : ℕ) → combinations ≡ 2 ^ b .conditions →
     (r c : ℕ) → r < b .rows → c < combinations → Readable comes place (b .span) r c
-all-readable b comes place since s e n q r c l h =
+all-readable b comes place since s n q r c l h =
     let p : Lines = s .plan in
     let o : Boarded p b = s .boarded in
     let w : n ≡ 2 ^ length (p .conditions) = q ∙ ap (λ (k : ℕ). 2 ^ k) (o .conditions-count) in
-    readable p (s .passes) comes place since (b .span) (logs p b o comes place since (s .logged) e) r c (omega (arith, o .row-count)) (omega arith)
+    readable p (s .passes) comes place since (b .span) (s .logged) r c (omega (arith, o .row-count)) (omega arith)
 
 -- an entry made from a number has that number
 numbers-back : (r : ℕ) (xs : List ℕ) → map packed-entry (map (entry-from r) xs) ≡ xs
@@ -43,11 +39,10 @@ unfolding packed-entry
 numbers-back r [] = refl
 numbers-back r (x ∷ xs) = λ i. number-back r x i ∷ numbers-back r xs i
 
-pub entered : (b : Board) (comes place since : List ℕ) → since ≡ replicate 64 0 → (combinations : ℕ) → combinations ≡ 2 ^ b .conditions → (list ends : List ℕ) (count : ℕ) →
+pub entered : (b : Board) (comes place since : List ℕ) (combinations : ℕ) → combinations ≡ 2 ^ b .conditions → (list ends : List ℕ) (count : ℕ) →
     Listed (row-numbers comes place (b .tell) (b .conditions) since (b .span) combinations) list ends (b .rows) count →
-    (p : Lines) → plan-refusal p ≡ nothing → Boarded p b → Logged p comes place → Entered p list ends count
-entered b comes place since e n q list ends count listed p fine o h =
-    let L : Logs p comes place since (b .span) = logs p b o comes place since h e in
+    (p : Lines) → plan-refusal p ≡ nothing → Boarded p b → Logs p comes place since (b .span) → Entered p list ends count
+entered b comes place since n q list ends count listed p fine o L =
     let tell : b .tell ≡ length (p .processes) + length (p .edges) = o .tell-row ∙ (λ i. o .processes-count i + o .edges-count i) in
     let k : b .conditions ≡ length (p .conditions) = o .conditions-count in
     let w : n ≡ 2 ^ length (p .conditions) = q ∙ ap (λ (k : ℕ). 2 ^ k) k in

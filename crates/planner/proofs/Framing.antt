@@ -78,9 +78,9 @@ pub sum-next : (f : ℕ → ℕ) (n : ℕ) → sum (map f (below (n + 1))) ≡ s
 sum-next f n = let q : 0 + n ≡ n = omega arith in omega (arith, sum-split f 0 n 1, ap f q)
 
 -- the pass-over count of a plan
-pub pass-overs-sum : (p : Lines) (t : Totals) (comes place : List ℕ) → Planned-all p t comes place → (slots : ℕ) → slots ≡ length (p .slots) →
+pub pass-overs-sum : (p : Lines) (lasting : List ℕ) (t : Totals) (comes place since : List ℕ) → Planned-all p lasting t comes place since → (slots : ℕ) → slots ≡ length (p .slots) →
     sum (map (λ n. getD (t .passed) n 0) (below slots)) ≡ sum (result p .passed)
 unfolding result
-pass-overs-sum p t comes place a slots e =
+pass-overs-sum p lasting t comes place since a slots e =
     ap (λ (k : ℕ). sum (map (λ n. getD (t .passed) n 0) (below k))) e
     ∙ ap sum (map-upfrom (λ n. getD (t .passed) n 0) (passed-by (plans p)) 0 (length (p .slots)) (λ k l u. a .passed k (omega arith)))

@@ -1,6 +1,6 @@
 -- What the planner answers and writes, in the words of the model.
 -- Assumes nothing.
-use Prim.Native.Nat.{ℕ, _+_, _*_, _^_, _<_}
+use Prim.Native.Nat.{ℕ, _+_, _*_, _<_}
 use mathlib.Core.Path.{_≡_}
 use mathlib.Core.List.{List, map}
 use lib.ListN.{length, getD}
@@ -8,13 +8,11 @@ use lib.Seq.{slice}
 use Rattle.lists.specs.Lists.{sum}
 use Rattle.model.specs.Plan.{Lines}
 use Rattle.model.specs.Bus.{rows}
-use Rattle.model.specs.Planning.{planned}
 use Rattle.model.specs.Refusals.{nothing, plan-refusal}
 use Rattle.model.specs.Table.{Answer, turned-down, made, plans, row-entries, result, entry-words, frame-words, plan-answer, table-after, frames-after}
-use Rattle.readiness.specs.Holding.{Held}
 use Rattle.board.specs.declared.Board.{Board}
 use Rattle.board.specs.Board.{Boarded}
-use Rattle.entries.specs.Logs.{block, numbered}
+use Rattle.entries.specs.Logs.{Logs}
 use Rattle.entries.specs.Words.{Laid, table}
 use Rattle.frames.specs.Packed.{packed-entry}
 use Rattle.courses.specs.declared.Totals.{Totals}
@@ -29,23 +27,19 @@ answer-of (turned-down n) = answer.Refused n
 answer-of (made r) =
     answer.Made (record { words = length (entry-words (r .entries)); framewords = length (frame-words (r .frames)); delay = r .delay; passed = sum (r .passed) })
 
--- the arrays hold the logs of all combinations of a plan
-abbrev pub Logged : Lines → List ℕ → List ℕ → Type 0
-Logged p comes place = (c : ℕ) → c < 2 ^ length (p .conditions) → Held p (planned p (numbered p c) .log) (block comes c) (block place c)
-
 -- a board of some plan in which refusals 2 to 9 find nothing, whose logs the arrays hold
-pub record Some-logs (b : Board) (comes place : List ℕ) : Type 0 where
+pub record Some-logs (b : Board) (comes place since : List ℕ) : Type 0 where
   pub plan : Lines
   pub passes : plan-refusal plan ≡ nothing
   pub boarded : Boarded plan b
-  pub logged : Logged plan comes place
+  pub logged : Logs plan comes place since (b .span)
 
 -- the same with the totals of all combinations
-pub record Some-plans (b : Board) (t : Totals) (comes place : List ℕ) : Type 0 where
+pub record Some-plans (b : Board) (t : Totals) (comes place since : List ℕ) : Type 0 where
   pub plan : Lines
   pub passes : plan-refusal plan ≡ nothing
   pub boarded : Boarded plan b
-  pub all : Planned-all plan t comes place
+  pub all : Planned-all plan (b .span) t comes place since
 
 -- The entries of the plan's table stand in an array as numbers, row after row; `count` of them in all.
 pub record Entered (p : Lines) (list ends : List ℕ) (count : ℕ) : Type 0 where

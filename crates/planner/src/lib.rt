@@ -22,10 +22,11 @@ ghost use Rattle.model.specs.Refusals.{nothing, plan-refusal};
 ghost use Rattle.model.specs.Table.{plan-answer, table-after, frames-after};
 ghost use Rattle.plan.specs.Memory.{lines};
 ghost use Rattle.board.specs.Board.{Boarded};
+ghost use Rattle.entries.specs.Logs.{Logs};
 ghost use Rattle.entries.specs.Words.{Laid, table as table-words};
 ghost use Rattle.frames.specs.Packed.{packed-words};
 ghost use Rattle.courses.specs.Courses.{Planned-all};
-ghost use Rattle.planner.specs.Planner.{answer-of, Logged, Some-logs, Some-plans, Entered, Answers};
+ghost use Rattle.planner.specs.Planner.{answer-of, Some-logs, Some-plans, Entered, Answers};
 
 // What the planner gives where nothing is refused: how many words of the table and of the frame list are written, the worst delay, and the pass-over count.
 pub struct Made {
@@ -79,23 +80,24 @@ fn pass_overs(passed: [u32; 8], slots: usize) -> u32
     total
 }
 
-// The entries of the table as numbers in `list`, row r's from place ends[r] up to place ends[r + 1]. How many there are in all.
+// The entries of the table as numbers in `list`, row r's from place ends[r] up to place ends[r + 1]. How many there are in all. A row that starts before clock
+// `since[c]` in combination c has the same entry in an earlier combination, and is listed there.
 fn list_entries<'a>(
     b: Board,
     comes: &'a [u32; 12672],
     place: &'a [u32; 12672],
+    since: &'a [u32; 64],
     list: &mut [u64; 12672],
     ends: &mut [u32; 199],
 ) -> usize
-    requires { ⌜ Some-logs b (now comes) (now place) ⌝ ∗ ⌜ (length (now list) ≡ 12672) × (length (now ends) ≡ 199) ⌝ }
-    ensures { λ count. ⌜ ((p : Lines) → plan-refusal p ≡ nothing → Boarded p b → Logged p (now (comes .entry)) (now (place .entry)) → Entered p (now (list .exit)) (now (ends .exit)) count) ⌝ }
+    requires { ⌜ Some-logs b (now comes) (now place) (now since) ⌝ ∗ ⌜ (length (now list) ≡ 12672) × (length (now ends) ≡ 199) ⌝ }
+    ensures { λ count. ⌜ ((p : Lines) → plan-refusal p ≡ nothing → Boarded p b → Logs p (now (comes .entry)) (now (place .entry)) (now (since .entry)) (b .span) → Entered p (now (list .exit)) (now (ends .exit)) count) ⌝ }
 {
     let combinations = how_many(b.conditions);
-    let since = no_clocks();
     all_entries(
         comes,
         place,
-        &since,
+        since,
         &b.span,
         combinations,
         b.tell,
@@ -134,15 +136,16 @@ fn write_all<'a>(
     t: Totals,
     comes: &'a [u32; 12672],
     place: &'a [u32; 12672],
+    since: &'a [u32; 64],
     table: &mut [u32],
     frames: &mut [u32],
 ) -> Planned
-    requires { ⌜ Some-plans b t (now comes) (now place) ⌝ }
-    ensures { λ r. ⌜ ((p : Lines) → plan-refusal p ≡ nothing → Boarded p b → Planned-all p t (now (comes .entry)) (now (place .entry)) → Answers p r (now (table .entry)) (now (frames .entry)) (now (table .exit)) (now (frames .exit))) ⌝ }
+    requires { ⌜ Some-plans b t (now comes) (now place) (now since) ⌝ }
+    ensures { λ r. ⌜ ((p : Lines) → plan-refusal p ≡ nothing → Boarded p b → Planned-all p (b .span) t (now (comes .entry)) (now (place .entry)) (now (since .entry)) → Answers p r (now (table .entry)) (now (frames .entry)) (now (table .exit)) (now (frames .exit))) ⌝ }
 {
     let mut list = no_numbers();
     let mut ends = no_places();
-    let count = list_entries(b, comes, place, &mut list, &mut ends);
+    let count = list_entries(b, comes, place, since, &mut list, &mut ends);
     if table.len() < 5 * count {
         return Planned::Refused(10);
     }
@@ -177,8 +180,9 @@ fn plan_accepted(p: Plan, table: &mut [u32], frames: &mut [u32]) -> Planned
     let b = of_plan(p);
     let mut comes = no_rows();
     let mut place = no_rows();
-    let t = all_courses(b, &mut comes, &mut place);
-    write_all(b, t, &comes, &place, table, frames)
+    let mut since = no_clocks();
+    let t = all_courses(b, &mut comes, &mut place, &mut since);
+    write_all(b, t, &comes, &place, &since, table, frames)
 }
 
 // Plans any plan in memory: the start table is written to the front of `table`, five words to an entry, and the frame list to the front of `frames`, three

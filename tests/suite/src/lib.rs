@@ -1,4 +1,7 @@
-//! What the tests share: document 01's example, short ways to write plans, and random inputs.
+//! What the tests share: document 01's example, short ways to write plans, the plans of its cases,
+//! and random inputs.
+
+pub mod cases;
 
 use generate::{plan, Kind, Random};
 use reference::lookup::Question;

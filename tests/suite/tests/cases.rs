@@ -2,15 +2,9 @@
 
 use reference::lookup::Answer;
 use reference::table::{entries, words, Entry};
-use reference::{check, plan, print, program, read, row_query, run, Lines, When};
-use suite::{bus, listed, listed_from, planned, s, With, S, S_LISTING};
-
-/// S with process 0 at other ticks.
-fn s_with_first_ticks(ticks: u64) -> Lines {
-    let mut lines = s();
-    lines.processes[0].ticks = ticks;
-    lines
-}
+use reference::{check, plan, print, program, read, row_query, run};
+use suite::cases::{self, packing, s_with_a_long_message, s_with_first_ticks};
+use suite::{listed, listed_from, planned, s, With, S, S_LISTING};
 
 /// What the checker says of S's table with one entry changed.
 fn check_s(number: usize, change: fn(&mut Entry)) -> Option<u8> {
@@ -66,6 +60,7 @@ fn s_with_process_0_at_9_ticks() {
 #[test]
 fn s_third_edge_at_3_bytes() {
     let text = S.replace("(to 3) (bytes 2)", "(to 3) (bytes 3)");
+    assert_eq!(print(&s_with_a_long_message()), text.as_bytes());
     assert_eq!(read(text.as_bytes()), Err(9));
     assert_eq!(program(text.as_bytes()), b"(refused 9)\n");
 }
@@ -120,22 +115,10 @@ fn empty_text() {
 
 #[test]
 fn one_process_of_7_ticks_alone() {
-    let planned = planned(&bus(1, &[(0, 1)]).all(0, 7));
+    let planned = planned(&cases::alone());
     assert_eq!(planned.words, [0, 0, 0, 0, 0]);
     assert_eq!(planned.frames, []);
     assert_eq!(planned.delay, 7);
-}
-
-/// The packing case: process 0 sends 3, 2 and 1 bytes to three processes of 2 ticks.
-fn packing() -> Lines {
-    bus(1, &[(0, 4), (1, 1)])
-        .all(0, 1)
-        .all(1, 2)
-        .all(1, 2)
-        .all(1, 2)
-        .edge(0, 1, 3, When::Always)
-        .edge(0, 2, 2, When::Always)
-        .edge(0, 3, 1, When::Always)
 }
 
 #[test]
@@ -161,7 +144,7 @@ fn packing_case_with_place_2_for_the_third() {
 
 #[test]
 fn processes_of_1_and_5_ticks_on_one_node() {
-    let lines = bus(1, &[(0, 1)]).all(0, 1).all(0, 5);
+    let lines = cases::one_and_five_ticks();
     let starts = ["(start 0 (when) (at 5))", "(start 1 (when) (at 0))"];
     assert_eq!(listed_from(&lines, "(start"), starts);
     let starts = ["(start 0 (when) (at 0))", "(start 1 (when) (at 1))"];
@@ -172,12 +155,8 @@ fn processes_of_1_and_5_ticks_on_one_node() {
 
 #[test]
 fn a_message_ready_as_the_slot_begins_is_sent_in_it() {
-    let lines = bus(1, &[(0, 2), (1, 2)])
-        .all(0, 4)
-        .all(1, 1)
-        .edge(0, 1, 1, When::Always);
     assert_eq!(
-        listed_from(&lines, "(send"),
+        listed_from(&cases::ready_as_the_slot_begins(), "(send"),
         ["(send 0 (when) (at 4) (place 0))"]
     );
 }
@@ -194,19 +173,11 @@ fn a_column_lists_values_heard_only() {
 
 #[test]
 fn an_any_process_waits_while_another_input_may_come() {
-    // Process 2 has its input from 1 at tick 1; the value that rules out the other comes at 6.
-    let lines = bus(1, &[(0, 2), (1, 2)])
-        .all(0, 2)
-        .all(1, 1)
-        .any(1, 1)
-        .decides(0)
-        .edge(0, 2, 1, When::True(0))
-        .edge(1, 2, 1, When::Always);
     let starts = [
         "(start 2 (when (false 0)) (at 6))",
         "(start 2 (when (true 0)) (at 10))",
     ];
-    assert_eq!(listed_from(&lines, "(start 2"), starts);
+    assert_eq!(listed_from(&cases::any_waits(), "(start 2"), starts);
 }
 
 #[test]

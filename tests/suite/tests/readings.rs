@@ -5,12 +5,8 @@ use reference::run::Run;
 use reference::table::{entries, words};
 use reference::{check, listing, plan, print, program, read, refuse_plan, row_query, run};
 use reference::{Lines, When};
+use suite::cases::{self, alone, inner_decision};
 use suite::{bus, listed_from, planned, question, s, With, S};
-
-/// One process of 7 ticks alone.
-fn alone() -> Lines {
-    bus(1, &[(0, 1)]).all(0, 7)
-}
 
 /// S with a part of its text replaced.
 fn s_with(old: &str, new: &str) -> Vec<u8> {
@@ -163,38 +159,21 @@ fn b10_reading_tries_2_to_9() {
 
 #[test]
 fn c1_a_slot_counts_once_however_many_items_stay_behind() {
-    let lines = bus(1, &[(0, 2), (1, 1)])
-        .all(0, 1)
-        .all(1, 1)
-        .all(1, 1)
-        .all(1, 1)
-        .edge(0, 1, 2, When::Always)
-        .edge(0, 2, 2, When::Always)
-        .edge(0, 3, 2, When::Always);
+    let lines = cases::three_full_slots();
     assert_eq!(planned(&lines).passed, 2);
     assert_eq!(planned(&lines).passed_by_node, [2, 0]);
 }
 
 #[test]
 fn c2_slots_after_the_last_end_count_too() {
-    let lines = bus(1, &[(0, 1), (1, 4)])
-        .all(0, 1)
-        .all(0, 1)
-        .decides(0)
-        .decides(1);
+    let lines = cases::broadcast_after_the_last_end();
     assert_eq!(planned(&lines).delay, 2);
     assert_eq!(planned(&lines).passed, 4);
 }
 
 #[test]
 fn c3_an_item_is_ready_by_the_beginning_of_the_slot() {
-    // Process 1 ends at tick 5, within the slot of node 0 that begins at 4 and is full then.
-    let lines = bus(1, &[(0, 2), (1, 2)])
-        .all(0, 4)
-        .all(0, 1)
-        .all(1, 9)
-        .edge(0, 2, 2, When::Always)
-        .edge(1, 2, 2, When::Always);
+    let lines = cases::ready_within_a_slot();
     assert_eq!(planned(&lines).passed, 0);
     let sent = [
         "(send 0 (when) (at 4) (place 0))",
@@ -207,13 +186,7 @@ fn c3_an_item_is_ready_by_the_beginning_of_the_slot() {
 
 #[test]
 fn c4_a_message_to_a_receiver_that_will_not_run_is_sent() {
-    let lines = bus(1, &[(0, 2), (1, 2)])
-        .all(0, 1)
-        .all(0, 1)
-        .all(1, 1)
-        .decides(0)
-        .edge(0, 2, 1, When::True(0))
-        .edge(1, 2, 1, When::Always);
+    let lines = cases::receiver_that_will_not_run();
     let sent = listed_from(&lines, "(send 1");
     assert_eq!(sent, ["(send 1 (when) (at 4) (place 1))"]);
     assert_eq!(listed_from(&lines, "(start 2").len(), 1);
@@ -229,12 +202,7 @@ fn c4_a_message_to_a_receiver_that_will_not_run_is_sent() {
 
 #[test]
 fn c5_ends_come_with_the_arrivals() {
-    let lines = bus(1, &[(0, 4), (1, 4)])
-        .all(0, 8)
-        .all(0, 1)
-        .all(1, 1)
-        .edge(0, 1, 1, When::Always)
-        .edge(0, 2, 1, When::Always);
+    let lines = cases::end_as_the_slot_begins();
     assert_eq!(listed_from(&lines, "(start 1"), ["(start 1 (when) (at 8))"]);
     assert_eq!(
         listed_from(&lines, "(send"),
@@ -244,14 +212,7 @@ fn c5_ends_come_with_the_arrivals() {
 
 #[test]
 fn c6_urgency_counts_edges_that_do_not_carry() {
-    let lines = bus(1, &[(0, 1)])
-        .all(0, 1)
-        .all(0, 1)
-        .all(0, 9)
-        .all(0, 2)
-        .decides(0)
-        .edge(0, 2, 1, When::True(0))
-        .edge(1, 3, 1, When::Always);
+    let lines = cases::urgent_by_a_conditional_edge();
     assert_eq!(listed_from(&lines, "(start 0"), ["(start 0 (when) (at 0))"]);
     let starts = listed_from(&lines, "(start 1");
     assert_eq!(starts, ["(start 1 (when) (at 1))"]);
@@ -267,14 +228,7 @@ fn c7_a_conditional_local_edge_waits_for_the_broadcast() {
 fn c8_an_any_process_needs_the_value_heard_equality_included() {
     let starts = &listed_from(&s(), "(start 3")[0];
     assert_eq!(starts, "(start 3 (when (false 0)) (at 17))");
-    // Process 2 has its input at 1; the value comes at 4 and lets it start at that very tick.
-    let lines = bus(1, &[(0, 2)])
-        .all(0, 1)
-        .all(0, 1)
-        .any(0, 1)
-        .decides(0)
-        .edge(0, 2, 1, When::True(0))
-        .edge(1, 2, 1, When::Always);
+    let lines = cases::any_starts_as_the_value_comes();
     let starts = [
         "(start 2 (when (false 0)) (at 4))",
         "(start 2 (when (true 0)) (at 4))",
@@ -284,35 +238,12 @@ fn c8_an_any_process_needs_the_value_heard_equality_included() {
 
 #[test]
 fn c9_known_inactive_goes_up_from_process_0() {
-    // With condition 0 false, 1 and then 2 are known inactive, so 4 need not wait for 2.
-    let lines = bus(1, &[(0, 1)])
-        .all(0, 1)
-        .all(0, 1)
-        .all(0, 1)
-        .all(0, 1)
-        .any(0, 1)
-        .decides(0)
-        .edge(0, 1, 1, When::True(0))
-        .edge(1, 2, 1, When::Always)
-        .edge(2, 4, 1, When::Always)
-        .edge(3, 4, 1, When::Always);
+    let lines = cases::inactive_in_turn();
     let starts = [
         "(start 4 (when (false 0)) (at 2))",
         "(start 4 (when (true 0)) (at 4))",
     ];
     assert_eq!(listed_from(&lines, "(start 4"), starts);
-}
-
-/// Process 1 decides condition 1 and runs if condition 0 is true; 2 runs if it is false.
-fn inner_decision() -> Lines {
-    bus(1, &[(0, 2), (1, 2)])
-        .all(0, 1)
-        .all(0, 1)
-        .all(0, 1)
-        .decides(0)
-        .decides(1)
-        .edge(0, 1, 1, When::True(0))
-        .edge(0, 2, 1, When::False(0))
 }
 
 #[test]
@@ -326,17 +257,7 @@ fn c10_a_condition_whose_decider_does_not_run_stands_in_no_column() {
 
 #[test]
 fn c10_pass_overs_count_for_both_values() {
-    // With condition 0 false, process 1 does not run; two messages of 2 bytes compete.
-    let lines = bus(1, &[(0, 2), (1, 2)])
-        .all(0, 1)
-        .all(0, 1)
-        .all(1, 1)
-        .all(1, 1)
-        .decides(0)
-        .decides(1)
-        .edge(0, 1, 1, When::True(0))
-        .edge(0, 2, 2, When::False(0))
-        .edge(0, 3, 2, When::False(0));
+    let lines = cases::pass_over_without_the_inner_decision();
     let sent = [
         "(send 1 (when (false 0)) (at 8) (place 0))",
         "(send 2 (when (false 0)) (at 12) (place 0))",
@@ -347,12 +268,7 @@ fn c10_pass_overs_count_for_both_values() {
 
 #[test]
 fn c11_a_condition_that_no_when_names_is_broadcast() {
-    let lines = bus(1, &[(0, 1)])
-        .all(0, 1)
-        .all(0, 1)
-        .decides(0)
-        .edge(0, 1, 1, When::Always);
-    let lines = lines.all(0, 1).edge(1, 2, 1, When::Always);
+    let lines = cases::unused_condition();
     assert_eq!(
         listed_from(&lines, "(tell"),
         ["(tell 0 (when) (at 1) (place 0))"]
@@ -366,14 +282,7 @@ fn c11_a_condition_that_no_when_names_is_broadcast() {
 
 #[test]
 fn c12_broadcasts_that_do_not_fit_are_passed_over() {
-    // Both deciders have ended as the slot of 1 byte begins at tick 5, and so has the message.
-    let lines = bus(1, &[(0, 1), (1, 4)])
-        .all(0, 1)
-        .all(0, 1)
-        .all(1, 1)
-        .decides(0)
-        .decides(1)
-        .edge(0, 2, 1, When::Always);
+    let lines = cases::broadcasts_that_do_not_fit();
     let told = [
         "(tell 0 (when) (at 5) (place 0))",
         "(tell 1 (when (false 0)) (at 10) (place 0))",
@@ -398,13 +307,8 @@ fn c14_false_stands_before_true() {
     assert_eq!((all[3].row, all[3].values), (3, 0));
     assert_eq!((all[4].row, all[4].values), (3, 1));
     // At one tick and with equal known bits as well.
-    let lines = bus(1, &[(0, 1)])
-        .all(0, 1)
-        .any(0, 1)
-        .decides(0)
-        .edge(0, 1, 1, When::True(0));
-    let other = lines.clone().all(0, 3).edge(0, 2, 1, When::Always);
-    let all = entries(&planned(&other).words);
+    let lines = cases::false_and_true_at_one_tick();
+    let all = entries(&planned(&lines).words);
     assert!(all.windows(2).all(|two| {
         let key = |e: &reference::Entry| (e.row, e.tick, e.known, e.values);
         key(&two[0]) < key(&two[1])
@@ -413,13 +317,7 @@ fn c14_false_stands_before_true() {
 
 #[test]
 fn c15_a_frame_has_the_greatest_bytes_of_any_combination() {
-    let lines = bus(1, &[(0, 3), (1, 1)])
-        .all(0, 1)
-        .all(1, 1)
-        .all(1, 1)
-        .decides(0)
-        .edge(0, 1, 1, When::True(0))
-        .edge(0, 2, 3, When::False(0));
+    let lines = cases::frame_of_two_lengths();
     let frames = [
         "(frame 4 (node 0) (bytes 1))",
         "(frame 8 (node 0) (bytes 3))",
@@ -788,16 +686,15 @@ fn f7_every_node_asks_in_any_bus_order() {
 
 #[test]
 fn c17_the_program_refuses_more_than_3000_entries_with_10() {
-    // 57 processes wait for a long one, so that each has an entry for every combination.
-    let mut lines = bus(1, &[(0, 6)]);
-    for process in 0..6 {
-        lines = lines.all(0, 1).decides(process);
-    }
-    lines = lines.all(0, 1_000);
-    for process in 7..64 {
-        lines = lines.all(0, 1).edge(6, process, 1, When::Always);
-    }
-    lines = lines.by_number();
+    let lines = cases::too_many_entries();
     assert!(planned(&lines).words.len() > 15_000);
     assert!(program(&print(&lines)) == b"(refused 10)\n");
+}
+
+#[test]
+fn c17_the_program_refuses_more_than_2000_frames_with_11() {
+    let lines = cases::too_many_frames();
+    assert!(planned(&lines).words.len() <= 15_000);
+    assert!(planned(&lines).frames.len() > 6_000);
+    assert!(program(&print(&lines)) == b"(refused 11)\n");
 }

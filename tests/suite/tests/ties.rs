@@ -1,19 +1,7 @@
 //! What goes first among several that could go.
 
-use reference::{Lines, When};
-use suite::{bus, listed_from, With};
-
-/// Process 0 sends one byte each to 1 (of 1 tick), 3 and 2 (of 5 ticks), in this order of edges.
-fn three_messages() -> Lines {
-    bus(1, &[(0, 3), (1, 1)])
-        .all(0, 1)
-        .all(1, 1)
-        .all(1, 5)
-        .all(1, 5)
-        .edge(0, 1, 1, When::Always)
-        .edge(0, 3, 1, When::Always)
-        .edge(0, 2, 1, When::Always)
-}
+use suite::cases::{misfit_in_the_middle, three_messages, two_broadcasts};
+use suite::{listed_from, With};
 
 #[test]
 fn messages_go_by_urgency_of_the_receiver_then_by_edge_number() {
@@ -54,17 +42,6 @@ fn processes_go_by_urgency_then_by_number() {
     );
 }
 
-/// Both processes of node 0 decide, the second one condition 0, and the first one sends a message.
-fn two_broadcasts() -> Lines {
-    bus(1, &[(0, 3), (1, 1)])
-        .all(0, 1)
-        .all(0, 1)
-        .all(1, 100)
-        .decides(1)
-        .decides(0)
-        .edge(0, 2, 1, When::Always)
-}
-
 #[test]
 fn broadcasts_go_before_messages_by_condition_number() {
     for lines in [two_broadcasts(), two_broadcasts().by_number()] {
@@ -82,18 +59,10 @@ fn broadcasts_go_before_messages_by_condition_number() {
 
 #[test]
 fn an_item_that_fits_goes_before_a_more_urgent_one_that_does_not() {
-    let lines = bus(1, &[(0, 2), (1, 1)])
-        .all(0, 1)
-        .all(1, 9)
-        .all(1, 8)
-        .all(1, 7)
-        .edge(0, 1, 1, When::Always)
-        .edge(0, 2, 2, When::Always)
-        .edge(0, 3, 1, When::Always);
     let sent = [
         "(send 0 (when) (at 3) (place 0))",
         "(send 1 (when) (at 6) (place 0))",
         "(send 2 (when) (at 3) (place 1))",
     ];
-    assert_eq!(listed_from(&lines, "(send"), sent);
+    assert_eq!(listed_from(&misfit_in_the_middle(), "(send"), sent);
 }

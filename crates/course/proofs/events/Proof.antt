@@ -5,21 +5,21 @@ use Prim.Native.Nat.{_-_}
 use native.Mathlib.Omega.{arith}
 use borrow.Author.Needs.{needs}
 use Rattle.board.specs.declared.Board.{Board}
-use Rattle.course.specs.Course.{Moment, hears, begins-with, serves, waiting, next, over, from-clock, board-of}
+use Rattle.course.specs.Course.{Moment, hears, begins-with, serves, waiting, notes, next, over, from-clock, board-of}
 use Rattle.course.proofs.Loops.{next-parts, next-later, Going, going-start, going-on}
 use Rattle.course.proofs.events.Statement.{statement}
 use Rattle.course.proofs.events.Tie as tie
 
 abbrev Inv-loop : tie.InvT-loop
-Inv-loop processes tell conditions slots node ticks several from cue remote bytes decider intofirst into turnfirst turn queuefirst queue round offset lasts rooms unmet start flight comes₀ place₀ passed₀ run₀ busy₀ under₀ told₀ come₀ u₀ comes place passed run busy under told come u =
+Inv-loop processes tell conditions slots node ticks several from cue remote bytes decider intofirst into turnfirst turn queuefirst queue round offset lasts rooms unmet start flight comes₀ place₀ passed₀ noted₀ run₀ busy₀ under₀ told₀ come₀ u₀ comes place passed noted run busy under told come u =
     Going
     (board-of processes tell conditions slots node ticks several from cue remote bytes decider intofirst into turnfirst turn queuefirst queue round offset lasts rooms)
     unmet
-    (from-clock start flight busy₀ comes₀ place₀ passed₀)
-    (record { u = u; come = come; flight = under; told = told; run = run; busy = busy; comes = comes; place = place; passed = passed })
+    (from-clock start flight busy₀ comes₀ place₀ passed₀ noted₀)
+    (record { u = u; come = come; flight = under; told = told; run = run; busy = busy; comes = comes; place = place; passed = passed; noted = noted })
 
 abbrev μ-loop : tie.MeasureT-loop
-μ-loop processes tell conditions slots node ticks several from cue remote bytes decider intofirst into turnfirst turn queuefirst queue round offset lasts rooms unmet start flight comes₀ place₀ passed₀ run₀ busy₀ under₀ told₀ come₀ u₀ comes place passed run busy under told come u =
+μ-loop processes tell conditions slots node ticks several from cue remote bytes decider intofirst into turnfirst turn queuefirst queue round offset lasts rooms unmet start flight comes₀ place₀ passed₀ noted₀ run₀ busy₀ under₀ told₀ come₀ u₀ comes place passed noted run busy under told come u =
     2000000001 - u
 
 -- the board and the moment at the loop's test
@@ -34,7 +34,7 @@ At = tie.At-loop Inv-loop μ-loop
 abbrev moment : At → Moment
 moment c =
     let l = c .loop in
-    record { u = l .u; come = l .come; flight = l .under; told = l .told; run = l .run; busy = l .busy; comes = l .comes; place = l .place; passed = l .passed }
+    record { u = l .u; come = l .come; flight = l .under; told = l .told; run = l .run; busy = l .busy; comes = l .comes; place = l .place; passed = l .passed; noted = l .noted }
 
 none-requires : tie.Need-none-requires Inv-loop μ-loop
 none-requires c κs = search needs
@@ -43,25 +43,32 @@ loop-holds : tie.Need-loop-holds Inv-loop μ-loop
 loop-holds c =
     let s = c .before in
     let a = s .args in
-    going-start (board s) (a .unmet .now) (a .start) (a .flight) (a .ends) (a .comes .now) (a .place .now) (a .passed .now) (c .none .ensures) (s .pre .1) (s .pre .2)
+    going-start (board s) (a .unmet .now) (a .start) (a .flight) (a .ends) (a .comes .now) (a .place .now) (a .passed .now) (a .noted .now) (c .none .ensures) (s .pre .1) (s .pre .2) (s .pre .3)
+
+note-requires : tie.Need-note-requires Inv-loop μ-loop
+unfolding board-of
+note-requires c κs =
+    let l = c .before .before .before .before in
+    let f = l .before .before .pre .0 in
+    (f .few-rows, f .few-conditions, l .loop .inv .counts-long)
 
 heard-requires : tie.Need-heard-requires Inv-loop μ-loop
 unfolding board-of
 heard-requires c κs =
-    let f = c .before .before .before .before .pre .0 in
+    let f = c .before .before .before .before .before .before .before .before .pre .0 in
     (f .few-processes, f .into-firsts, f .within-into)
 
 begin-requires : tie.Need-begin-requires Inv-loop μ-loop
 unfolding board-of
 begin-requires c κs =
-    let i = c .before .before .before .before .before in
+    let i = c .before .before .before .before .before .before .before .before .before in
     let f = i .before .before .before .pre .0 in
     (f .few-slots, f .few-processes, f .into-firsts, f .within-into, f .turn-firsts, f .turn-members, i .loop-test .taken, f .ticks-small)
 
 serve-requires : tie.Need-serve-requires Inv-loop μ-loop
 unfolding board-of
 serve-requires c κs =
-    let i = c .before .before .before .before .before .before .before .before .before in
+    let i = c .before .before .before .before .before .before .before .before .before .before .before .before .before in
     let f = i .before .before .before .pre .0 in
     let g = i .before .loop .inv in
     (f .few-processes, f .few-rows, f .few-conditions, f .few-slots, f .deciders, f .within-queue, f .queue-firsts, f .round-one, f .round-most, f .offset-most, g .from-one, i .loop-test .taken, f .lasts-small, g .counts-low)
@@ -69,44 +76,46 @@ serve-requires c κs =
 next-come-requires : tie.Need-next-come-requires Inv-loop μ-loop
 unfolding board-of
 next-come-requires c κs =
-    let i = c .before .before .before .before .before .before .before .before .before .before .before in
+    let i = c .before .before .before .before .before .before .before .before .before .before .before .before .before .before .before in
     i .before .before .before .pre .0 .few-slots
 
 next-event-requires : tie.Need-next-event-requires Inv-loop μ-loop
 unfolding board-of
 next-event-requires c κs =
-    let i = c .before .before .before .before .before .before .before .before .before .before .before .before .before in
+    let i = c .before .before .before .before .before .before .before .before .before .before .before .before .before .before .before .before .before in
     let f = i .before .before .before .pre .0 in
     (f .few-slots, f .few-processes, f .few-rows, f .few-conditions, f .deciders, f .within-queue, f .queue-firsts, f .round-one, f .round-most, f .offset-most, i .loop-test .taken)
 
 loop-less : tie.Need-loop-less Inv-loop μ-loop
-unfolding board-of hears begins-with serves waiting
+unfolding board-of hears begins-with serves waiting notes
 loop-less c =
     let n = c .before .before in
     let t = n .before .before in
     let g = t .before .before .before .before in
     let h = g .before .before .before .before in
-    let i = h .before .before in
+    let w = h .before .before in
+    let i = w .before .before .before .before in
     let l = i .before in
     let s = l .before .before in
     let u = s .args .unmet .now in
-    let q = next-parts (board s) u (moment l) (h .heard .ensures) (g .begin .ensures .0) (g .begin .ensures .1) (t .serve .ensures) (n .next-come .ensures) (c .next-event .ensures) in
+    let q = next-parts (board s) u (moment l) (w .note .ensures) (h .heard .ensures) (g .begin .ensures .0) (g .begin .ensures .1) (t .serve .ensures) (n .next-come .ensures) (c .next-event .ensures) in
     let z = next-later (board s) u (s .pre .0) (moment l) (i .loop-test .taken) in
     omega (arith, z, ap (λ (m : Moment). m .u) q, i .loop-test .taken)
 
 loop-again : tie.Need-loop-again Inv-loop μ-loop
-unfolding board-of hears begins-with serves waiting
+unfolding board-of hears begins-with serves waiting notes
 loop-again c =
     let n = c .before .before in
     let t = n .before .before in
     let g = t .before .before .before .before in
     let h = g .before .before .before .before in
-    let i = h .before .before in
+    let w = h .before .before in
+    let i = w .before .before .before .before in
     let l = i .before in
     let s = l .before .before in
     let u = s .args .unmet .now in
-    let q = next-parts (board s) u (moment l) (h .heard .ensures) (g .begin .ensures .0) (g .begin .ensures .1) (t .serve .ensures) (n .next-come .ensures) (c .next-event .ensures) in
-    subst (Going (board s) u (from-clock (s .args .start) (s .args .flight) (s .args .ends) (s .args .comes .now) (s .args .place .now) (s .args .passed .now))) (sym q) (going-on (board s) u (s .pre .0) (l .loop .inv) (i .loop-test .taken))
+    let q = next-parts (board s) u (moment l) (w .note .ensures) (h .heard .ensures) (g .begin .ensures .0) (g .begin .ensures .1) (t .serve .ensures) (n .next-come .ensures) (c .next-event .ensures) in
+    subst (Going (board s) u (from-clock (s .args .start) (s .args .flight) (s .args .ends) (s .args .comes .now) (s .args .place .now) (s .args .passed .now) (s .args .noted .now))) (sym q) (going-on (board s) u (s .pre .0) (l .loop .inv) (i .loop-test .taken))
 
 latest-requires : tie.Need-latest-requires Inv-loop μ-loop
 unfolding board-of
@@ -123,6 +132,7 @@ returns c =
       rows = refl;
       places = refl;
       counts = refl;
+      notes-end = refl;
     }
 
 pub events-spec : {M : Type 1} → statement M
@@ -133,6 +143,7 @@ events-spec =
     μ-loop
     none-requires
     loop-holds
+    note-requires
     heard-requires
     begin-requires
     serve-requires

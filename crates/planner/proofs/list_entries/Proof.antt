@@ -9,14 +9,11 @@ use Rattle.planner.proofs.list_entries.Tie as tie
 how-many-requires : tie.Need-how-many-requires
 how-many-requires c κs = search needs
 
-no-clocks-requires : tie.Need-no-clocks-requires
-no-clocks-requires c κs = search needs
-
 all-entries-requires : tie.Need-all-entries-requires
 all-entries-requires c κs =
-    let s = c .before .before .before .before .before .before .before in
+    let s = c .before .before .before .before .before in
     let o = s .pre .0 .boarded in
-    let n = c .before .before .before .before .before .before .how-many in (
+    let n = c .before .before .before .before .how-many in (
       (
         omega (arith, o .tell-row, o .few-processes, o .few-edges, o .few-conditions),
         o .few-conditions,
@@ -24,17 +21,17 @@ all-entries-requires c κs =
         omega (arith, o .row-count, o .processes-count, o .edges-count, o .conditions-count, o .few-processes, o .few-edges, o .few-conditions),
       ),
       (
-        all-readable (s .args .t1) (s .args .comes .now) (s .args .place .now) (c .before .before .before .before .before .no-clocks .result) (s .pre .0) (c .before .before .before .before .before .no-clocks .ensures) (n .result) (n .ensures .0),
+        all-readable (s .args .t1) (s .args .comes .now) (s .args .place .now) (s .args .since .now) (s .pre .0) (n .result) (n .ensures .0),
         (s .pre .1 .0, s .pre .1 .1),
       ),
     )
 
 returns : tie.Need-returns
 returns c =
-    let s = c .before .before .before .before .before .before .before .before in
-    let n = c .before .before .before .before .before .before .before .how-many in
-    entered (s .args .t1) (s .args .comes .now) (s .args .place .now) (c .before .before .before .before .before .before .no-clocks .result) (c .before .before .before .before .before .before .no-clocks .ensures) (n .result) (n .ensures .0) _ _ _ (c .all-entries .ensures)
+    let s = c .before .before .before .before .before .before in
+    let n = c .before .before .before .before .before .how-many in
+    entered (s .args .t1) (s .args .comes .now) (s .args .place .now) (s .args .since .now) (n .result) (n .ensures .0) _ _ _ (c .all-entries .ensures)
 
 pub list-entries-spec : {M : Type 1} → statement M
 list-entries-spec =
-    tie.close (tie.spec how-many-requires no-clocks-requires all-entries-requires returns)
+    tie.close (tie.spec how-many-requires all-entries-requires returns)

@@ -17,19 +17,26 @@ no-rows-requires c κs = search needs
 no-rows-requires-2 : tie.Need-no-rows-requires-2
 no-rows-requires-2 c κs = search needs
 
+no-clocks-requires : tie.Need-no-clocks-requires
+no-clocks-requires c κs = search needs
+
 all-courses-requires : tie.Need-all-courses-requires
 all-courses-requires c κs =
-    let s = c .before .before .before .before .before .before .before in (
-      record { plan = lines (s .args .p); passes = s .pre; boarded = c .before .before .before .before .of-plan .ensures },
-      (ap length (c .before .before .before .no-rows .ensures) ∙ length-replicate {A = ℕ} 12672 0, ap length (c .before .before .no-rows2 .ensures) ∙ length-replicate {A = ℕ} 12672 0),
+    let s = c .before .before .before .before .before .before .before .before .before in (
+      record { plan = lines (s .args .p); passes = s .pre; boarded = c .before .before .before .before .before .before .of-plan .ensures },
+      (
+        ap length (c .before .before .before .before .before .no-rows .ensures) ∙ length-replicate {A = ℕ} 12672 0,
+        ap length (c .before .before .before .before .no-rows2 .ensures) ∙ length-replicate {A = ℕ} 12672 0,
+        ap length (c .before .before .before .no-clocks .ensures) ∙ length-replicate {A = ℕ} 64 0,
+      ),
     )
 
 write-all-requires : tie.Need-write-all-requires
 write-all-requires c κs =
-    let s = c .before .before .before .before .before .before .before .before .before .before .before .before in
+    let s = c .before .before .before .before .before .before .before .before .before .before .before .before .before .before .before in
     let p = lines (s .args .p) in
-    let o = c .before .before .before .before .before .before .before .before .before .of-plan .ensures in
-    record { plan = p; passes = s .pre; boarded = o; all = c .before .before .before .before .all-courses .ensures p (s .pre) o }
+    let o = c .before .before .before .before .before .before .before .before .before .before .before .before .of-plan .ensures in
+    record { plan = p; passes = s .pre; boarded = o; all = c .before .before .before .before .before .all-courses .ensures p (s .pre) o }
 
 same-length : tie.Need-same-length
 same-length c = search needs
@@ -39,10 +46,10 @@ same-length-2 c = search needs
 
 returns : tie.Need-returns
 returns c =
-    let s = c .before .before .before .before .before .before .before .before .before .before .before .before .before .before .before .before .before in
+    let s = c .before .before .before .before .before .before .before .before .before .before .before .before .before .before .before .before .before .before .before .before in
     let p = lines (s .args .p) in
-    let o = c .before .before .before .before .before .before .before .before .before .before .before .before .before .before .of-plan .ensures in
-    c .before .before .before .before .write-all .ensures p (s .pre) o (c .before .before .before .before .before .before .before .before .before .all-courses .ensures p (s .pre) o)
+    let o = c .before .before .before .before .before .before .before .before .before .before .before .before .before .before .before .before .before .of-plan .ensures in
+    c .before .before .before .before .write-all .ensures p (s .pre) o (c .before .before .before .before .before .before .before .before .before .before .all-courses .ensures p (s .pre) o)
 
 pub plan-accepted-spec : {M : Type 1} → statement M
 plan-accepted-spec =
@@ -51,6 +58,7 @@ plan-accepted-spec =
     of-plan-requires
     no-rows-requires
     no-rows-requires-2
+    no-clocks-requires
     all-courses-requires
     write-all-requires
     same-length

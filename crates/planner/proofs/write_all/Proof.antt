@@ -10,6 +10,7 @@ use Rattle.board.specs.Board.{Boarded}
 use Rattle.courses.specs.Courses.{Planned-all}
 use Rattle.planner.specs.Planner.{Entered}
 use Rattle.planner.proofs.Answering.{answer-ten, answer-eleven, answer-made, refused-answers, made-answers}
+use Rattle.planner.proofs.Entering.{logs}
 use Rattle.planner.proofs.Framing.{laid-of, rows-of, Framed, framed, words-front, frames-front, pass-overs-sum}
 use borrow.Author.Needs.{needs}
 use Rattle.planner.proofs.write_all.Statement.{statement}
@@ -17,14 +18,14 @@ use Rattle.planner.proofs.write_all.Tie as tie
 
 -- a plan that the board is of, and whose logs and totals are given
 abbrev Of : tie.Start → Lines → Type 0
-Of s p = (plan-refusal p ≡ nothing) × Boarded p (s .args .t1) × Planned-all p (s .args .t) (s .args .comes .now) (s .args .place .now)
+Of s p = (plan-refusal p ≡ nothing) × Boarded p (s .args .t1) × Planned-all p (s .args .t1 .span) (s .args .t) (s .args .comes .now) (s .args .place .now) (s .args .since .now)
 
 some : (s : tie.Start) → Of s (s .pre .plan)
 some s = let i = s .pre in (i .passes, i .boarded, i .all)
 
 -- the entries listed are those of the plan's table
-listed : (d : tie.After-list-entries) (p : Lines) → Of (d .before .before .before .before .before .before .before) p → Entered p (d .list-entries .last .1 .1 .1 .0) (d .list-entries .last .1 .1 .1 .1 .0) (d .list-entries .result)
-listed d p k = d .list-entries .ensures p (k .0) (k .1) (k .2 .held)
+listed : (d : tie.After-list-entries) (p : Lines) → Of (d .before .before .before .before .before .before .before) p → Entered p (d .list-entries .last .1 .1 .1 .1 .0) (d .list-entries .last .1 .1 .1 .1 .1 .0) (d .list-entries .result)
+listed d p k = d .list-entries .ensures p (k .0) (k .1) (logs p _ (k .1) _ _ _ _ (k .2))
 
 -- there are few of them
 few : (d : tie.After-list-entries) → d .list-entries .result ≤ 12672
@@ -87,11 +88,11 @@ pass-overs-requires c κs =
     let i = s .pre in
     (i .boarded .few-slots, λ n l. i .all .passed-few n (subst (λ (k : ℕ). n < k) (i .boarded .slots-count) l))
 
-mul-t36 : tie.Need-mul-t36
-mul-t36 c = omega (arith, few (c .before .before .before .before .before .before .before .before .before .before .before .before .before .before .before .before .before .before .before .before .before .before))
-
 mul-t37 : tie.Need-mul-t37
-mul-t37 c = let d = c .before .before .before .before .before .before .before .before .before .before .before .before .before in let s = d .before .before .before .before .before .before .before .before .before .before .before .before .before .before .before .before in omega (arith, collected d (s .pre .plan) (some s) .few)
+mul-t37 c = omega (arith, few (c .before .before .before .before .before .before .before .before .before .before .before .before .before .before .before .before .before .before .before .before .before .before))
+
+mul-t38 : tie.Need-mul-t38
+mul-t38 c = let d = c .before .before .before .before .before .before .before .before .before .before .before .before .before in let s = d .before .before .before .before .before .before .before .before .before .before .before .before .before .before .before .before in omega (arith, collected d (s .pre .plan) (some s) .few)
 
 same-length : tie.Need-same-length
 same-length c = search needs
@@ -108,7 +109,7 @@ returns-2 c p fine o a =
     let w = c .before .before .before .before .before .before .before .write-both .ensures .0 (c .before .before .if2 .taken) in
     made-answers p (s .args .table .now) (s .args .frames .now)
     (answer-made p _ _ fine (omega (arith, e .counted, d .before .before .before .before .before .before .before .before .if1 .left)) (omega (arith, f .counted, w .0)))
-    (sym (e .counted)) (sym (f .counted)) (a .delay) (c .pass-overs .ensures ∙ pass-overs-sum p _ _ _ a _ (o .slots-count))
+    (sym (e .counted)) (sym (f .counted)) (a .delay) (c .pass-overs .ensures ∙ pass-overs-sum p _ _ _ _ _ a _ (o .slots-count))
     (words-front (s .args .t1) _ _ _ p o e (s .args .table .now) (w .1)) (frames-front p _ _ f (s .args .frames .now) (w .2))
 
 same-length-3 : tie.Need-same-length-3
@@ -140,8 +141,8 @@ write-all-spec =
     collect-requires
     write-both-requires
     pass-overs-requires
-    mul-t36
     mul-t37
+    mul-t38
     same-length
     same-length-2
     returns-2

@@ -1,0 +1,305 @@
+//! What is measured: the classes of inputs, the ways, and the check that all ways of a set agree.
+
+use std::hint::black_box;
+
+use bench::baseline::{Outcome, Planner};
+use bench::printing::{Printer, PROGRAM_FRAME_WORDS, PROGRAM_WORDS};
+use bench::program::Program;
+use bench::reading::{no_lines, read};
+use generate::{plan, Kind, Random};
+use reference::Lines;
+
+/// The classes of inputs and how many inputs each has.
+pub const CLASSES: [(Kind, u64); 7] = [
+    (Kind::Tiny, 64),
+    (Kind::DenseBus, 32),
+    (Kind::ManyConditions, 32),
+    (Kind::NestedAny, 32),
+    (Kind::Largest, 4),
+    (Kind::LongestRound, 32),
+    (Kind::ShortestRound, 32),
+];
+
+/// The least number of inputs of a class that begin with a text.
+const LEAST_TEXTS: u64 = 8;
+
+/// Enough words for the largest plan.
+const WORDS: usize = 198 * 64 * 5;
+const FRAME_WORDS: usize = 134 * 64 * 3;
+
+/// The name of the way that the others are compared with.
+const BASELINE: &str = "baseline";
+
+/// A way whose instructions are not counted: under valgrind it would take minutes.
+pub const UNCOUNTED: &str = "reference";
+
+/// A plan as lines and as text, and what the baseline gives for it.
+pub struct Input {
+    lines: Lines,
+    text: Vec<u8>,
+    outcome: Outcome,
+    words: Vec<u32>,
+    frame_words: Vec<u32>,
+}
+
+/// A name and what is done with an input. What it gives stays in its own memory.
+pub type Way = (&'static str, Box<dyn FnMut(&Input)>);
+
+/// Ways that are compared with each other.
+pub struct Set {
+    /// The name of the set.
+    pub name: &'static str,
+    /// What its ways do.
+    pub about: &'static str,
+    /// Makes the ways, each with its memory.
+    pub ways: fn() -> Vec<Way>,
+    /// Whether the ways do the same, so that they are compared with the first.
+    pub compared: bool,
+    /// Whether the inputs are those that the planning program accepts.
+    accepted: bool,
+}
+
+/// All sets.
+pub const SETS: [Set; 4] = [
+    Set {
+        name: "planning",
+        about: "from lines to words",
+        ways: planning,
+        compared: true,
+        accepted: false,
+    },
+    Set {
+        name: "parts",
+        about: "of the baseline, on the plans of the lines below",
+        ways: parts,
+        compared: false,
+        accepted: true,
+    },
+    Set {
+        name: "words",
+        about: "from text to words; 3,000 entries and 2,000 frames lent, and enough",
+        ways: to_words,
+        compared: true,
+        accepted: true,
+    },
+    Set {
+        name: "listing",
+        about: "from text to listing; 3,000 entries and 2,000 frames lent, and enough",
+        ways: to_listing,
+        compared: true,
+        accepted: true,
+    },
+];
+
+/// The inputs of a class.
+pub fn inputs(set: &Set, class: usize) -> Vec<Input> {
+    let (kind, count) = CLASSES[class];
+    let (words, frame_words, count) = if set.accepted {
+        (
+            PROGRAM_WORDS,
+            PROGRAM_FRAME_WORDS,
+            count.max(LEAST_TEXTS) as usize,
+        )
+    } else {
+        (WORDS, FRAME_WORDS, count as usize)
+    };
+    let mut planner = Planner::default();
+    let (mut words, mut frame_words) = (vec![0; words], vec![0; frame_words]);
+    (0..)
+        .map(|number| plan(kind, &mut Random::new(number)))
+        .filter_map(|lines| {
+            let outcome = planner.plan(&lines, &mut words, &mut frame_words).ok()?;
+            Some(Input {
+                text: reference::print(&lines),
+                lines,
+                outcome,
+                words: words[..outcome.words].to_vec(),
+                frame_words: frame_words[..outcome.frame_words].to_vec(),
+            })
+        })
+        .take(count)
+        .collect()
+}
+
+fn planning() -> Vec<Way> {
+    let mut planner = Planner::default();
+    let (mut words, mut frame_words) = (vec![0; WORDS], vec![0; FRAME_WORDS]);
+    vec![
+        (
+            BASELINE,
+            Box::new(move |input| {
+                let outcome = planner.plan(&input.lines, &mut words, &mut frame_words);
+                let _ = black_box(outcome);
+            }),
+        ),
+        (
+            UNCOUNTED,
+            Box::new(|input| {
+                let _ = black_box(reference::plan(&input.lines, WORDS, FRAME_WORDS));
+            }),
+        ),
+    ]
+}
+
+fn parts() -> Vec<Way> {
+    let mut lines = no_lines();
+    let mut planner = Planner::default();
+    let (mut words, mut frame_words) = (vec![0; PROGRAM_WORDS], vec![0; PROGRAM_FRAME_WORDS]);
+    let mut printer = Printer::default();
+    vec![
+        (
+            "reading",
+            Box::new(move |input| {
+                black_box(read(&input.text, &mut lines));
+            }),
+        ),
+        (
+            "planning",
+            Box::new(move |input| {
+                let outcome = planner.plan(&input.lines, &mut words, &mut frame_words);
+                let _ = black_box(outcome);
+            }),
+        ),
+        (
+            "printing",
+            Box::new(move |input| {
+                let (words, frame_words) = (&input.words, &input.frame_words);
+                black_box(printer.listing(&input.lines, &input.outcome, words, frame_words));
+            }),
+        ),
+    ]
+}
+
+fn to_words() -> Vec<Way> {
+    let mut program = Program::default();
+    let (mut words, mut frame_words) = (vec![0; PROGRAM_WORDS], vec![0; PROGRAM_FRAME_WORDS]);
+    let baseline: Way = (
+        BASELINE,
+        Box::new(move |input| {
+            let outcome = program.plan(&input.text, &mut words, &mut frame_words);
+            let _ = black_box(outcome);
+        }),
+    );
+    std::iter::once(baseline).chain(ours::to_words()).collect()
+}
+
+fn to_listing() -> Vec<Way> {
+    let mut program = Program::default();
+    let baseline: Way = (
+        BASELINE,
+        Box::new(move |input| {
+            black_box(program.listing(&input.text));
+        }),
+    );
+    std::iter::once(baseline)
+        .chain(ours::to_listing())
+        .collect()
+}
+
+/// Stops the program unless everything that is measured gives for the inputs what the reference
+/// gives.
+pub fn compare(set: &Set, inputs: &[Input]) {
+    let mut program = Program::default();
+    for input in inputs {
+        let planned = reference::plan(&input.lines, WORDS, FRAME_WORDS).expect("a plan");
+        assert!(input.words == planned.words && input.frame_words == planned.frames);
+        assert_eq!(input.outcome, outcome(&planned));
+        if !set.accepted {
+            continue;
+        }
+        let (mut words, mut frame_words) = (vec![0; WORDS], vec![0; FRAME_WORDS]);
+        let outcome = program.plan(&input.text, &mut words, &mut frame_words);
+        assert_eq!(outcome, Ok(input.outcome));
+        assert!(words.starts_with(&input.words) && frame_words.starts_with(&input.frame_words));
+        assert!(program.listing(&input.text) == reference::program(&input.text));
+        ours::compare(input);
+    }
+}
+
+/// What the reference gives, in the form of the baseline.
+fn outcome(planned: &reference::Planned) -> Outcome {
+    let mut passed_by_node = [0; 8];
+    passed_by_node[..planned.passed_by_node.len()].copy_from_slice(&planned.passed_by_node);
+    Outcome {
+        words: planned.words.len(),
+        frame_words: planned.frames.len(),
+        passed_by_node,
+        delay: planned.delay,
+    }
+}
+
+/// The ways of our archive.
+#[cfg(have_archive)]
+mod ours {
+    use super::*;
+    use ::ours::archive::{plan_listing, plan_table};
+    use bench::printing::LONGEST_LISTING;
+
+    const NAME: &str = "ours";
+
+    fn bytes(words: &[u32]) -> Vec<u8> {
+        words.iter().flat_map(|word| word.to_le_bytes()).collect()
+    }
+
+    pub fn to_words() -> Option<Way> {
+        let mut table = vec![0; PROGRAM_WORDS * 4];
+        let mut frames = vec![0; PROGRAM_FRAME_WORDS * 4];
+        let go = move |input: &Input| {
+            let mut totals = [0; 16];
+            black_box(plan_table(
+                &input.text,
+                &mut table,
+                &mut frames,
+                &mut totals,
+            ));
+            black_box(totals);
+        };
+        Some((NAME, Box::new(go)))
+    }
+
+    pub fn to_listing() -> Option<Way> {
+        let mut out = vec![0; LONGEST_LISTING];
+        let go = move |input: &Input| {
+            black_box(plan_listing(&input.text, &mut out));
+        };
+        Some((NAME, Box::new(go)))
+    }
+
+    pub fn compare(input: &Input) {
+        let mut table = vec![0; PROGRAM_WORDS * 4];
+        let mut frames = vec![0; PROGRAM_FRAME_WORDS * 4];
+        let mut totals = [0; 16];
+        let answer = plan_table(&input.text, &mut table, &mut frames, &mut totals);
+        let outcome = &input.outcome;
+        assert_eq!(answer, outcome.words as u64 * 4);
+        assert!(table.starts_with(&bytes(&input.words)));
+        assert!(frames.starts_with(&bytes(&input.frame_words)));
+        let passed: u64 = outcome.passed_by_node.iter().sum();
+        let four = [
+            outcome.words as u32,
+            outcome.frame_words as u32,
+            outcome.delay as u32,
+            passed as u32,
+        ];
+        assert_eq!(totals[..], bytes(&four));
+        let mut out = vec![0; LONGEST_LISTING];
+        let length = plan_listing(&input.text, &mut out) as usize;
+        assert!(out.get(..length) == Some(&reference::program(&input.text)[..]));
+    }
+}
+
+/// No ways: the archive is not built.
+#[cfg(not(have_archive))]
+mod ours {
+    use super::{Input, Way};
+
+    pub fn to_words() -> Option<Way> {
+        None
+    }
+
+    pub fn to_listing() -> Option<Way> {
+        None
+    }
+
+    pub fn compare(_: &Input) {}
+}

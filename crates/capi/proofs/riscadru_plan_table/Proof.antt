@@ -1,0 +1,57 @@
+-- `capi::riscadru_plan_table` meets its contract, by those of the reader and of `put_plan`.
+-- Assumes nothing.
+use mathlib.Core.Path.{refl}
+use borrow.Author.Needs.{needs}
+use Rattle.capi.proofs.Lending.{refused-tables, read-tables}
+use Rattle.capi.proofs.riscadru_plan_table.Statement.{statement}
+use Rattle.capi.proofs.riscadru_plan_table.Tie as tie
+
+read-plan-requires : tie.Need-read-plan-requires
+read-plan-requires c κs = search needs
+
+enum-known-refusal : tie.Need-enum-known-refusal
+enum-known-refusal c = search needs
+
+refused-requires : tie.Need-refused-requires
+refused-requires c κs = search needs
+
+enum-told : tie.Need-enum-told
+enum-told c = search needs
+
+put-plan-requires : tie.Need-put-plan-requires
+put-plan-requires c κs = search needs
+
+returns : tie.Need-returns
+returns c =
+    let a = c .before .before .before .before .before .before .before .before .before .args in
+    let r = c .before .before .before .before .read-plan in
+    refused-tables _ (a .table .now) (a .frames .now) (a .totals .now) _ _ _ (r .result) (r .ensures .0) _ _ (c .before .before .refusal .given .1) refl refl refl (c .refused .ensures)
+
+same-length : tie.Need-same-length
+same-length c = search needs
+
+same-length-2 : tie.Need-same-length-2
+same-length-2 c = search needs
+
+same-length-3 : tie.Need-same-length-3
+same-length-3 c = search needs
+
+returns-2 : tie.Need-returns-2
+returns-2 c =
+    let r = c .before .before .before .before .before .before .before .before .before .before .before .before .before .read-plan in
+    read-tables _ _ _ _ _ _ _ (r .result) (r .ensures .0) _ (c .before .before .before .before .before .before .before .before .before .before .before .enum-told .given .1) (c .before .before .before .before .before .before .put-plan .ensures)
+
+pub riscadru-plan-table-spec : {M : Type 1} → statement M
+riscadru-plan-table-spec =
+    tie.close
+    (tie.spec
+    read-plan-requires
+    enum-known-refusal
+    refused-requires
+    enum-told
+    put-plan-requires
+    returns
+    same-length
+    same-length-2
+    same-length-3
+    returns-2)

@@ -1,0 +1,314 @@
+-- What the planning program prints for a text is never more than 388,100 bytes: 3,000 lines of entries have at most 104 bytes each, 2,000 lines of frames at
+-- most 38 bytes each, and the first two lines fewer than 100 in all.
+-- Assumes nothing.
+use mathlib.Core.Path.{_≡_, refl, sym, ap, _∙_, subst}
+use mathlib.Core.Bool.{Bool, true, false}
+use mathlib.Core.Logic.{_⊎_, inl, inr}
+use mathlib.Core.List.{List, [], _∷_, List·Memᴰ as In}
+use Prim.Native.Nat.{ℕ, zero, suc, _+_, _-_, _*_, _/_, _%_, _^_, _≤_, _<_}
+use native.Mathlib.Nat.{pow-suc, pow-le-pow-right}
+use native.Mathlib.Omega.{arith}
+use borrow.Author.Tests.{ltb-true, ltb-false, eqb-true, eqb-false}
+use lib.Dec.{eqb, ltb}
+use lib.ListN.{length, length-append, length-map}
+use Rattle.lists.specs.Lists.{if_then_else_, any, keep, each, below, sum}
+use Rattle.lists.proofs.Tests.{two}
+use Rattle.lists.proofs.Members.{map-in}
+use Rattle.lists.proofs.Keep.{length-upfrom}
+use Rattle.lists.proofs.Sums.{greatest-le, sum-most-in, length-each}
+use Rattle.model.specs.Plan.{Lines, process, edges}
+use Rattle.model.specs.Activity.{combinations}
+use Rattle.model.specs.Bus.{sender, row-node, row-bytes, slot-of}
+use Rattle.model.specs.Log.{Placed, full-ticks, delay}
+use Rattle.model.specs.Planning.{State, bound, planned}
+use Rattle.model.specs.Refusals.{Refusal, nothing, refused, sentence, or-else, plan-refusal, wrong-counts, wrong-sizes, wrong-nodes, wrong-deciders, wrong-ends, twin-edges, wrong-when, too-long}
+use Rattle.model.specs.Table.{Entry, Frame, Answer, turned-down, made, Result, result, Planned, plans, passed-by, entry-of, entry-words, frame-words, answered, room-refusal, plan-answer}
+use Rattle.model.specs.Text.{decimal, Reading, after-refusal, Answers-text, of-no-form, of-form}
+use Rattle.model.specs.Text as m
+use Rattle.model.specs.Listing.{refused-line, printed, program-prints}
+use Rattle.laws.proofs.Bound.{bound-small, delay-within}
+use Rattle.laws.proofs.Combinations.{combination-length}
+use Rattle.laws.proofs.Entries.{final, Made, entries-in}
+use Rattle.laws.proofs.Events.{passed-few}
+use Rattle.laws.proofs.Frames.{frame-used}
+use Rattle.laws.proofs.Good.{Good, good}
+use Rattle.laws.proofs.History.{history}
+use Rattle.laws.proofs.Rows.{sender-in}
+use Rattle.laws.proofs.Rules.{Kept}
+use Rattle.laws.proofs.Safety.{planning-keeps}
+use Rattle.laws.proofs.Slots.{slot-in}
+use Rattle.mask.proofs.Numbered.{combinations-count}
+use Rattle.grammar.proofs.Numbers.{decimal-large}
+use Rattle.listing.specs.Parts.{value-at, values-from, item-of, entry-text, entries-text, frame-text, frames-text, listing-of}
+use Rattle.listing.specs.Parts.{entry-of as line-of}
+use Rattle.listing.proofs.Digits.{one-digit}
+use Rattle.listing.proofs.Cases.{value-none, value-false, value-true, entry-start, entry-send, entry-tell, entry-none}
+use Rattle.listing.proofs.Lengths.{false-length, true-length, start-length, item-length, frame-length, listing-length}
+use Rattle.listing.proofs.Lines.{refused-length, listing-same}
+use Rattle.listing.proofs.Printed.{printed-words, entries-back, frames-back}
+use Rattle.program.proofs.Printing.{made-suffice}
+
+-- a part of a list is no longer
+pub keep-short : {A : Type 0} (f : A → Bool) (xs : List A) → length (keep f xs) ≤ length xs
+keep-short f [] = omega arith
+keep-short f (x ∷ xs) = at (f x) (keep-short f xs)
+  where
+    at : (b : Bool) → length (keep f xs) ≤ length xs → length (if b then (x ∷ keep f xs) else keep f xs) ≤ length (x ∷ xs)
+    at true r = omega arith
+    at false r = omega arith
+
+-- five words to an entry, three to a frame
+pub entry-words-count : (es : List Entry) → length (entry-words es) ≡ 5 * length es
+entry-words-count [] = refl
+entry-words-count (e ∷ es) = let r = entry-words-count es in omega arith
+
+pub frame-words-count : (fs : List Frame) → length (frame-words fs) ≡ 3 * length fs
+frame-words-count [] = refl
+frame-words-count (f ∷ fs) = let r = frame-words-count fs in omega arith
+
+-- a number below a power of ten has no more digits than the power says
+pub digits-most : (k n : ℕ) → n < 10 ^ suc k → length (decimal n) ≤ suc k
+digits-most zero n h = omega (arith, one-digit n (omega arith))
+digits-most (suc k) n h =
+    at (two (ltb n 10)) (digits-most k (n / 10) (omega (arith, pow-suc 10 (suc k))))
+  where
+    at : (ltb n 10 ≡ true) ⊎ (ltb n 10 ≡ false) → length (decimal (n / 10)) ≤ suc k → length (decimal n) ≤ suc (suc k)
+    at (inl e) r = omega (arith, one-digit n (ltb-true n 10 e))
+    at (inr e) r = omega (arith, ap length (decimal-large n (ltb-false n 10 e)), length-append (decimal (n / 10)) ((48 + n % 10) ∷ []))
+
+-- a condition of a column, and n of them
+value-most : (known values k : ℕ) → k < 10 → length (value-at known values k) ≤ 10
+value-most known values k l = at (two (eqb (known % 2) 0)) (two (eqb (values % 2) 0))
+  where
+    at : (eqb (known % 2) 0 ≡ true) ⊎ (eqb (known % 2) 0 ≡ false) → (eqb (values % 2) 0 ≡ true) ⊎ (eqb (values % 2) 0 ≡ false) → length (value-at known values k) ≤ 10
+    at (inl e) d = omega (arith, ap length (value-none known values k (eqb-true _ _ e)))
+    at (inr e) (inl d) = omega (arith, ap length (value-false known values k (eqb-false _ _ e) (eqb-true _ _ d)), false-length k, one-digit k l)
+    at (inr e) (inr d) = omega (arith, ap length (value-true known values k (eqb-false _ _ e) (eqb-false _ _ d)), true-length k, one-digit k l)
+
+values-most : (n known values k : ℕ) → k + n ≤ 10 → length (values-from n known values k) ≤ 10 * n
+unfolding values-from
+values-most zero known values k l = omega arith
+values-most (suc n) known values k l =
+    omega (
+      arith,
+      length-append (value-at known values k) (values-from n (known / 2) (values / 2) (suc k)),
+      value-most known values k (omega arith),
+      values-most n (known / 2) (values / 2) (suc k) (omega arith),
+    )
+
+-- the line of an entry
+module _ (processes edges conditions row known values tick place : ℕ) (few : processes ≤ 64) (few-edges : edges ≤ 128) (few-conditions : conditions ≤ 6)
+    (tick-most : tick ≤ 999999999) (place-most : processes ≤ row → place ≤ 64) where
+  abbrev line : List ℕ
+  line = line-of processes edges conditions row known values tick place
+
+  column : length (values-from conditions known values 0) ≤ 60
+  column = omega (arith, values-most conditions known values 0 (omega arith))
+
+  tick-digits : length (decimal tick) ≤ 9
+  tick-digits = digits-most 8 tick (omega arith)
+
+  item-most : (label : List ℕ) → length label ≡ 6 → (number : ℕ) → number < 1000 → processes ≤ row → length (item-of label conditions number known values tick place) ≤ 104
+  item-most label six number n h =
+      let q = place-most h in
+      omega (arith, item-length label six conditions number known values tick place, column, tick-digits, digits-most 2 number n, digits-most 1 place (omega arith))
+
+  line-most : length line ≤ 104
+  line-most = at (two (ltb row processes)) (two (ltb (row - processes) edges)) (two (ltb (row - processes - edges) conditions))
+    where
+      at : (ltb row processes ≡ true) ⊎ (ltb row processes ≡ false) → (ltb (row - processes) edges ≡ true) ⊎ (ltb (row - processes) edges ≡ false) →
+          (ltb (row - processes - edges) conditions ≡ true) ⊎ (ltb (row - processes - edges) conditions ≡ false) → length line ≤ 104
+      at (inl a) b c =
+          let h = ltb-true _ _ a in
+          omega (
+            arith,
+            ap length (entry-start processes edges conditions row known values tick place h),
+            start-length conditions row known values tick,
+            column,
+            tick-digits,
+            digits-most 1 row (omega arith),
+          )
+      at (inr a) (inl b) c =
+          let h = ltb-false _ _ a in
+          let l = ltb-true _ _ b in
+          omega (arith, ap length (entry-send processes edges conditions row known values tick place h l), item-most (m.text "(send ") refl (row - processes) (omega arith) h)
+      at (inr a) (inr b) (inl c) =
+          let h = ltb-false _ _ a in
+          let l = ltb-false _ _ b in
+          let o = ltb-true _ _ c in
+          omega (
+            arith,
+            ap length (entry-tell processes edges conditions row known values tick place h l o),
+            item-most (m.text "(tell ") refl (row - processes - edges) (omega arith) h,
+          )
+      at (inr a) (inr b) (inr c) =
+          omega (arith, ap length (entry-none processes edges conditions row known values tick place (ltb-false _ _ a) (ltb-false _ _ b) (ltb-false _ _ c)))
+
+-- the bounds of an entry of the planner's table
+record Bounded (p : Lines) (e : Entry) : Type 0 where
+  tick : e .tick ≤ 999999999
+  item : length (p .processes) ≤ e .row → (row-node p (e .row) < 8) × (e .place + row-bytes p (e .row) ≤ 64)
+
+module _ (p : Lines) (fine : plan-refusal p ≡ nothing) where
+  g : Good p
+  g = good p fine
+
+  placed-bounded : (c : List Bool) → length c ≡ length (p .conditions) → (x : Placed) → In x (final p c) → Bounded p (entry-of p c (final p c) x)
+  unfolding entry-of row-node
+  placed-bounded c cl x i =
+      let k : Kept p c (final p c) = planning-keeps p c fine cl (bound p) in
+      let s : sender p (x .row) < length (p .processes) = sender-in p g (x .row) (k .only-due x i .0) in
+      let b = g .slot-most (slot-of p (process p (sender p (x .row)) .node)) (slot-in p g (sender p (x .row)) s) in
+      record {
+        tick = omega (arith, history p c (bound p) x i .0, bound-small p g);
+        item = λ h. (omega (arith, g .node-in (sender p (x .row)) s, g .few-slots), omega (arith, k .in-frame x (record { member = i; high = h }), b));
+      }
+
+  entry-bounded : (e : Entry) → In e (result p .entries) → Bounded p e
+  entry-bounded e i =
+      let d = entries-in p e i in
+      let w : Made p (d .0) e = d .2 in
+      subst (Bounded p) (sym (w .is-its)) (placed-bounded (d .0) (d .1) (w .item) (w .member))
+
+  entry-most : (e : Entry) → In e (result p .entries) → length (entry-text (length (p .processes)) (length (p .edges)) (length (p .conditions)) e) ≤ 104
+  entry-most e i =
+      let b = entry-bounded e i in
+      line-most (length (p .processes)) (length (p .edges)) (length (p .conditions)) (e .row) (e .known) (e .values) (e .tick) (e .place) (g .few-processes) (g .few-edges)
+      (g .few-conditions) (b .tick) (λ h. (let q = b .item h .1 in omega arith))
+
+  frame-most : (f : Frame) → In f (result p .frames) → length (frame-text f) ≤ 38
+  frame-most f i =
+      let u = frame-used p fine f i in
+      let b = entry-bounded (u .0) (u .1 .member) in
+      let q = b .item (ltb-false _ _ (u .1 .item)) in
+      let t : f .tick ≤ 999999999 = omega (arith, b .tick, u .2) in
+      let n : f .node < 8 = omega (arith, q .0, u .3) in
+      let o : f .used ≤ 64 = omega (arith, q .1, u .4) in
+      omega (arith, frame-length (f .tick) (f .node) (f .used), digits-most 8 (f .tick) (omega arith), one-digit (f .node) (omega arith), digits-most 1 (f .used) (omega arith))
+
+  pub plans-few : length (plans p) ≤ 64
+  unfolding plans
+  plans-few =
+      let q : 2 ^ length (p .conditions) ≤ 2 ^ 6 = pow-le-pow-right (omega arith) (g .few-conditions) in
+      let n : length (plans p) ≡ length (combinations p) = length-map (combinations p) (λ c. record { combination = c; state = planned p c }) in
+      omega (arith, combinations-count (length (p .conditions)))
+
+  -- the combination of a plan
+  plan-in : (s : Planned) → In s (plans p) → (c : List Bool) × (length c ≡ length (p .conditions)) × (s .state ≡ planned p c)
+  unfolding plans
+  plan-in s i =
+      let c = map-in (λ c. record { combination = c; state = planned p c }) (combinations p) i in
+      (c .0, combination-length p (c .0) (c .1), ap (λ (z : Planned). z .state) (c .2))
+
+  delay-most : result p .delay ≤ 999999999
+  unfolding result
+  delay-most =
+      greatest-le (λ s. delay p (full-ticks p) (s .state .log)) 999999999 (plans p) (λ s i.
+      let c = plan-in s i in
+      omega (arith, ap (λ (z : State). delay p (full-ticks p) (z .log)) (c .2), delay-within p (c .0) fine (c .1), bound-small p g))
+
+  passed-one : (n : ℕ) (s : Planned) → In s (plans p) → length (keep (eqb n) (s .state .passed)) ≤ 198
+  unfolding planned
+  passed-one n s i =
+      let c = plan-in s i in
+      omega (arith, keep-short (eqb n) (s .state .passed), ap (λ (z : State). length (z .passed)) (c .2), passed-few p (c .0) g (c .1) (bound p), g .few-processes, g .few-edges, g .few-conditions)
+
+  passed-most : sum (result p .passed) < 1000000
+  unfolding result passed-by
+  passed-most =
+      let q = sum-most-in (passed-by (plans p)) (below (length (p .slots))) 12672 (λ n i.
+      omega (arith, sum-most-in (λ s. length (keep (eqb n) (s .state .passed))) (plans p) 198 (passed-one n), plans-few)) in
+      omega (arith, length-upfrom 0 (length (p .slots)), g .few-slots)
+
+  -- the listing of a result of at most 3,000 entries and 2,000 frames
+  listing-most : length (entry-words (result p .entries)) ≤ 15000 → length (frame-words (result p .frames)) ≤ 6000 → length (printed p (made (result p))) ≤ 388100
+  listing-most h k =
+      let P : ℕ = length (p .processes) in
+      let E : ℕ = length (p .edges) in
+      let C : ℕ = length (p .conditions) in
+      let es : List Entry = result p .entries in
+      let fs : List Frame = result p .frames in
+      let whole : length (printed p (made (result p))) ≡ length (listing-of P E C (result p .delay) (sum (result p .passed)) (entry-words es) (frame-words fs)) =
+      ap length (printed-words p (result p) ∙ listing-same p (result p .delay) (sum (result p .passed)) (entry-words es) (frame-words fs)) in
+      let a : length (entries-text P E C (entry-words es)) ≤ 104 * length es =
+      omega (arith, ap (λ (xs : List Entry). length (each (entry-text P E C) xs)) (entries-back es), length-each (entry-text P E C) es 104 entry-most) in
+      let b : length (frames-text (frame-words fs)) ≤ 38 * length fs =
+      omega (arith, ap (λ (xs : List Frame). length (each frame-text xs)) (frames-back fs), length-each frame-text fs 38 frame-most) in
+      omega (
+        arith,
+        listing-length P E C (result p .delay) (sum (result p .passed)) (entry-words es) (frame-words fs),
+        entry-words-count es,
+        frame-words-count fs,
+        digits-most 8 (result p .delay) (omega (arith, delay-most)),
+        digits-most 5 (sum (result p .passed)) passed-most,
+      )
+
+-- the number of a refusal
+abbrev Most : Refusal → Type 0
+Most x = (n : ℕ) → x ≡ refused n → n ≤ 11
+
+no-refusal : Most nothing
+no-refusal n e = absurd (let z : _≡_ {A = ℕ} 0 1 = cc in omega arith)
+
+sentence-most : (k : ℕ) (b : Bool) (r : Refusal) → k ≤ 11 → Most r → Most (sentence k b r)
+sentence-most k true r l h n e = let q : k ≡ n = cc in omega arith
+sentence-most k false r l h n e = h n e
+
+or-else-most : (x r : Refusal) → Most x → Most r → Most (or-else x r)
+unfolding or-else
+or-else-most nothing r h k n e = k n e
+or-else-most (refused j) r h k n e = h n e
+
+plan-most : (p : Lines) → Most (plan-refusal p)
+unfolding plan-refusal
+plan-most p =
+    sentence-most 2 (wrong-counts p) _ (omega arith)
+    (sentence-most 3 (wrong-sizes p) _ (omega arith)
+    (sentence-most 4 (wrong-nodes p) _ (omega arith)
+    (sentence-most 5 (wrong-deciders p) _ (omega arith)
+    (sentence-most 6 (any (wrong-ends p) (p .edges)) _ (omega arith)
+    (sentence-most 7 (twin-edges (p .edges)) _ (omega arith)
+    (sentence-most 8 (any (wrong-when p) (p .edges)) _ (omega arith) (sentence-most 9 (any (too-long p) (edges p)) nothing (omega arith) no-refusal)))))))
+
+room-most : (r : Result) (words room : ℕ) → Most (room-refusal r words room)
+unfolding room-refusal
+room-most r words room =
+    sentence-most 10 (ltb words (length (entry-words (r .entries)))) _ (omega arith)
+    (sentence-most 11 (ltb room (length (frame-words (r .frames)))) nothing (omega arith) no-refusal)
+
+refused-most : (n : ℕ) → n ≤ 11 → length (refused-line n) ≤ 388100
+refused-most n l = omega (arith, refused-length n, digits-most 1 n (omega arith))
+
+answer-most : (x : Refusal) (r : Result) (n : ℕ) → Most x → answered x r ≡ turned-down n → n ≤ 11
+unfolding answered
+answer-most nothing r n h e = absurd (let z : _≡_ {A = ℕ} 0 1 = cc in omega arith)
+answer-most (refused j) r n h e = h n (let q : j ≡ n = cc in ap refused q)
+
+answer-is : (p : Lines) → plan-answer p 15000 6000 ≡ answered (or-else (plan-refusal p) (room-refusal (result p) 15000 6000)) (result p)
+unfolding plan-answer
+answer-is p = refl
+
+refusal-printed : (p : Lines) (n : ℕ) → length (printed p (turned-down n)) ≡ length (refused-line n)
+unfolding printed
+refusal-printed p n = refl
+
+plan-fits : (p : Lines) (a : Answer) → plan-answer p 15000 6000 ≡ a → length (printed p (plan-answer p 15000 6000)) ≤ 388100
+plan-fits p (turned-down n) e =
+    let l : n ≤ 11 =
+    answer-most (or-else (plan-refusal p) (room-refusal (result p) 15000 6000)) (result p) n
+    (or-else-most (plan-refusal p) (room-refusal (result p) 15000 6000) (plan-most p) (room-most (result p) 15000 6000)) (sym (answer-is p) ∙ e) in
+    omega (arith, ap (λ (a : Answer). length (printed p a)) e, refusal-printed p n, refused-most n l)
+plan-fits p (made r) e =
+    let s = made-suffice p 15000 6000 r e in
+    omega (arith, ap (λ (a : Answer). length (printed p a)) (e ∙ ap made (s .same)), listing-most p (s .passes) (s .enough) (s .frames-enough))
+
+-- Whatever a text reads as, what is printed for it has at most 388,100 bytes.
+pub program-fits : (text : List ℕ) (reading : Reading) → Answers-text text reading → length (program-prints reading) ≤ 388100
+unfolding program-prints after-refusal
+program-fits text reading (m.too-long l) = refused-most 1 (omega arith)
+program-fits text reading (of-no-form f) = refused-most 1 (omega arith)
+program-fits text reading (of-form p q l) = at (plan-refusal p) (plan-most p)
+  where
+    at : (x : Refusal) → Most x → length (program-prints (after-refusal x p)) ≤ 388100
+    at nothing h = plan-fits p (plan-answer p 15000 6000) refl
+    at (refused n) h = refused-most n (h n refl)

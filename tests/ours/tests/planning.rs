@@ -1,0 +1,380 @@
+//! Compares the planner of the archive with the reference: the same texts to both, and equal
+//! answers and equal bytes, those that were lent and some on either side of them. Without the
+//! archive there are no tests here; the gate builds it first.
+//!
+//! The variable `RISCADRU_PLANS` sets how many random plans are compared; without it, `PLANS`.
+#![cfg(have_archive)]
+
+use std::ops::Range;
+
+use generate::broken::{broken, broken_twice, NUMBERS};
+use generate::plans::{plan, Kind};
+use generate::random::Random;
+use generate::texts::{damaged_texts, of_length};
+use ours::archive::{plan_listing, plan_table, refused};
+use reference::listing::{write_listing, PROGRAM_FRAME_WORDS, PROGRAM_WORDS};
+use reference::{listing, print, read, Lines};
+use suite::{cases, for_plans, FEW, S, S_LISTING};
+
+/// How many random plans an ordinary run compares.
+const PLANS: u64 = 21_000;
+
+/// Of a thousand random plans, how many are of each kind. They add up to a thousand.
+const SHARES: [(Kind, u64); 7] = [
+    (Kind::Tiny, 400),
+    (Kind::DenseBus, 190),
+    (Kind::ManyConditions, 110),
+    (Kind::NestedAny, 115),
+    (Kind::Largest, 5),
+    (Kind::LongestRound, 90),
+    (Kind::ShortestRound, 90),
+];
+
+/// The bytes of a word.
+const WORD: usize = 4;
+
+/// The most bytes that are lent for the totals: one word more than there are.
+const MOST_TOTALS: usize = 5 * WORD;
+
+/// What the reference gives for a text.
+struct Wanted<'a> {
+    text: &'a [u8],
+    /// Start table, frame list and totals as bytes, or one of refusals 1 to 9.
+    planned: Result<Bytes, u8>,
+    /// What the planning program prints.
+    listing: Vec<u8>,
+}
+
+/// What a plan that is not refused gives, as bytes.
+struct Bytes {
+    table: Vec<u8>,
+    frames: Vec<u8>,
+    totals: Vec<u8>,
+}
+
+/// Words as bytes, the lowest first.
+fn bytes(words: &[u32]) -> Vec<u8> {
+    words.iter().flat_map(|word| word.to_le_bytes()).collect()
+}
+
+/// What the reference gives for a text, planned once for all that is lent.
+fn wanted(text: &[u8]) -> Wanted<'_> {
+    let planned = read(text).and_then(|lines| {
+        let planned = reference::plan(&lines, usize::MAX, usize::MAX)?;
+        Ok((lines, planned))
+    });
+    let printed = match &planned {
+        Err(number) => Err(*number),
+        Ok((_, p)) if p.words.len() > PROGRAM_WORDS => Err(10),
+        Ok((_, p)) if p.frames.len() > PROGRAM_FRAME_WORDS => Err(11),
+        Ok((lines, p)) => Ok(listing(lines, p.delay, p.passed, &p.words, &p.frames)),
+    };
+    Wanted {
+        text,
+        planned: planned.map(|(_, p)| Bytes {
+            totals: bytes(&[
+                p.words.len() as u32,
+                p.frames.len() as u32,
+                u32::try_from(p.delay).unwrap(),
+                u32::try_from(p.passed).unwrap(),
+            ]),
+            table: bytes(&p.words),
+            frames: bytes(&p.frames),
+        }),
+        listing: printed.unwrap_or_else(reference::refused),
+    }
+}
+
+/// Bytes of which a part is lent. Those on either side of it are there to stay as they were.
+struct Lent {
+    bytes: Vec<u8>,
+    part: Range<usize>,
+}
+
+impl Lent {
+    /// Lends so many bytes, filled with a random pattern, at a random place in memory.
+    fn new(length: usize, random: &mut Random) -> Self {
+        let first = random.between(16, 24) as usize;
+        let step = random.bits() as u8 | 1;
+        let bytes = (0..first + length + 24).map(|i| (i as u8).wrapping_mul(step) ^ 0x5a);
+        Lent {
+            bytes: bytes.collect(),
+            part: first..first + length,
+        }
+    }
+
+    /// The lent part.
+    fn lent(&mut self) -> &mut [u8] {
+        &mut self.bytes[self.part.clone()]
+    }
+
+    /// All bytes, with these at the front of the lent part.
+    fn with(&self, front: &[u8]) -> Vec<u8> {
+        let mut after = self.bytes.clone();
+        after[self.part.start..][..front.len()].copy_from_slice(front);
+        after
+    }
+
+    /// Asserts that all bytes are these.
+    fn assert_is(&self, after: &[u8], what: &str, context: &str) {
+        let differs = (0..after.len()).find(|&i| self.bytes[i] != after[i]);
+        if let Some(place) = differs {
+            panic!(
+                "byte {} of the {} bytes lent for the {what} is {}, not {}; {context}",
+                place as i64 - self.part.start as i64,
+                self.part.len(),
+                self.bytes[place],
+                after[place]
+            );
+        }
+    }
+}
+
+/// Bytes lent for the table, for the frames and for the totals.
+type Lengths = (usize, usize, usize);
+
+impl Wanted<'_> {
+    /// What a planner has to answer that is lent so many bytes, and what it has to write.
+    fn answer(&self, (table, frames, totals): Lengths) -> (u64, [&[u8]; 3]) {
+        match &self.planned {
+            Err(number) => (refused(*number), [&[]; 3]),
+            Ok(wanted) if wanted.table.len() > table => (refused(10), [&[]; 3]),
+            Ok(wanted) if wanted.frames.len() > frames => (refused(11), [&[]; 3]),
+            Ok(wanted) => {
+                let totals = &wanted.totals[..totals.min(wanted.totals.len())];
+                let written = [&wanted.table, &wanted.frames, totals];
+                (wanted.table.len() as u64, written)
+            }
+        }
+    }
+
+    /// The text and what is lent, for the message of a test that fails.
+    fn context(&self, lent: impl std::fmt::Debug) -> String {
+        let text = String::from_utf8_lossy(self.text);
+        format!("bytes lent: {lent:?}, text:\n{text}")
+    }
+
+    /// Plans with so many bytes lent.
+    fn same_table(&self, lengths: Lengths, random: &mut Random) {
+        let mut table = Lent::new(lengths.0, random);
+        let mut frames = Lent::new(lengths.1, random);
+        let mut totals = Lent::new(lengths.2, random);
+        let (answer, written) = self.answer(lengths);
+        let after = [
+            table.with(written[0]),
+            frames.with(written[1]),
+            totals.with(written[2]),
+        ];
+        let ours = plan_table(self.text, table.lent(), frames.lent(), totals.lent());
+        let context = self.context(lengths);
+        assert_eq!(ours, answer, "answer; {context}");
+        table.assert_is(&after[0], "table", &context);
+        frames.assert_is(&after[1], "frames", &context);
+        totals.assert_is(&after[2], "totals", &context);
+    }
+
+    /// Prints with so many bytes lent.
+    fn same_listing(&self, length: usize, random: &mut Random) {
+        let mut out = Lent::new(length, random);
+        let (answer, after) = match write_listing(self.listing.clone(), length) {
+            Err(number) => (refused(number), out.bytes.clone()),
+            Ok(listing) => (listing.len() as u64, out.with(&listing)),
+        };
+        let ours = plan_listing(self.text, out.lent());
+        let context = self.context(length);
+        assert_eq!(ours, answer, "answer with the listing; {context}");
+        out.assert_is(&after, "listing", &context);
+    }
+
+    /// The bytes to lend for table and frames: none, words missing for either or both, exactly as
+    /// many as it takes, more, and each with stray bytes that are no word.
+    fn lengths(&self, random: &mut Random) -> Vec<(usize, usize)> {
+        let mut more = || random.between(1, 9) as usize * WORD;
+        let Ok(Bytes { table, frames, .. }) = &self.planned else {
+            return vec![(0, 0), (WORD + 1, WORD - 1), (400 * more(), 200 * more())];
+        };
+        let (table, frames) = (table.len(), frames.len());
+        let mut all = vec![
+            (0, 0),
+            (table - WORD, frames),
+            (table - 1, frames + 3),
+            (table, frames),
+            (table + 3, frames + 1),
+            (table + more(), frames + more()),
+            (table + 5_000 + more() + 2, frames + 3_000 + more() + 3),
+        ];
+        if frames > 0 {
+            all.extend([
+                (0, frames),
+                (table, 0),
+                (table, frames - WORD),
+                (table - WORD, frames - WORD),
+                (table + 1, frames - 1),
+                (table + more(), frames - WORD),
+            ]);
+        }
+        all
+    }
+
+    /// Plans with everything lent in each way, the totals at random, and prints.
+    fn same(&self, random: &mut Random) {
+        for (table, frames) in self.lengths(random) {
+            let totals = random.below(MOST_TOTALS as u64 + 1) as usize;
+            self.same_table((table, frames, totals), random);
+        }
+        let length = self.listing.len();
+        for lent in [0, length - 1, length, length + 9] {
+            self.same_listing(lent, random);
+        }
+    }
+}
+
+/// How many random plans of a kind are compared.
+fn count(kind: Kind) -> u64 {
+    let plans = match std::env::var("RISCADRU_PLANS") {
+        Ok(number) => number.parse().expect("RISCADRU_PLANS: not a number"),
+        Err(_) => PLANS,
+    };
+    let share = SHARES.iter().find(|(of, _)| *of == kind);
+    (plans * share.expect("a share of each kind").1).div_ceil(1_000)
+}
+
+/// Compares the random plans of a kind.
+fn same_plans(kind: Kind) {
+    for number in 0..count(kind) {
+        let mut random = Random::new((kind as u64 + 1) << 48 | number);
+        let text = print(&plan(kind, &mut random));
+        wanted(&text).same(&mut random);
+    }
+}
+
+#[test]
+fn plans_with_a_dense_bus() {
+    same_plans(Kind::DenseBus);
+}
+
+#[test]
+fn plans_with_many_conditions() {
+    same_plans(Kind::ManyConditions);
+}
+
+#[test]
+fn plans_with_the_longest_round() {
+    same_plans(Kind::LongestRound);
+}
+
+#[test]
+fn plans_with_the_shortest_round() {
+    same_plans(Kind::ShortestRound);
+}
+
+#[test]
+fn plans_with_nested_branches() {
+    same_plans(Kind::NestedAny);
+}
+
+#[test]
+fn the_largest_plans() {
+    same_plans(Kind::Largest);
+}
+
+#[test]
+fn tiny_plans() {
+    same_plans(Kind::Tiny);
+}
+
+#[test]
+fn the_shares_add_up() {
+    let shares: u64 = SHARES.iter().map(|(_, share)| share).sum();
+    assert_eq!(shares, 1_000);
+    assert!(generate::KINDS.iter().all(|&kind| count(kind) > 0));
+}
+
+#[test]
+fn every_case_with_totals_of_every_length() {
+    for (name, lines) in cases::all() {
+        println!("{name}");
+        let mut random = Random::new(41);
+        let text = print(&lines);
+        let wanted = wanted(&text);
+        wanted.same(&mut random);
+        for (table, frames) in wanted.lengths(&mut random) {
+            for totals in 0..=MOST_TOTALS {
+                wanted.same_table((table, frames, totals), &mut random);
+            }
+        }
+    }
+}
+
+#[test]
+fn every_length_for_the_listing_of_s() {
+    let mut out = vec![0; S_LISTING.len()];
+    assert_eq!(plan_listing(S.as_bytes(), &mut out), out.len() as u64);
+    assert_eq!(out, S_LISTING.as_bytes());
+    let wanted = wanted(S.as_bytes());
+    let mut random = Random::new(42);
+    for length in 0..S_LISTING.len() + 70 {
+        wanted.same_listing(length, &mut random);
+    }
+}
+
+#[test]
+fn every_number_of_words_for_s() {
+    let wanted = wanted(S.as_bytes());
+    let mut random = Random::new(43);
+    for table in 0..=42 * WORD {
+        for frames in 0..=11 * WORD {
+            wanted.same_table((table, frames, MOST_TOTALS), &mut random);
+        }
+    }
+}
+
+#[test]
+fn damaged_texts_are_refused_or_planned_alike() {
+    for_plans(44, &FEW, |lines, random| {
+        for damaged in damaged_texts(lines, random) {
+            wanted(&damaged.text).same(random);
+        }
+    });
+}
+
+#[test]
+fn broken_plans_are_refused_alike() {
+    for_plans(45, &FEW, |lines, random| {
+        for (place, &first) in NUMBERS.iter().enumerate() {
+            if let Some(lines) = broken(lines, first, random) {
+                same_lines(&lines, random);
+            }
+            for &second in &NUMBERS[place + 1..] {
+                if let Some(lines) = broken_twice(lines, first, second, random) {
+                    same_lines(&lines, random);
+                }
+            }
+        }
+    });
+}
+
+fn same_lines(lines: &Lines, random: &mut Random) {
+    wanted(&print(lines)).same(random);
+}
+
+#[test]
+fn texts_about_the_greatest_length() {
+    for_plans(46, &FEW.map(|(kind, _)| (kind, 3)), |lines, random| {
+        for length in [16_383, 16_384, 16_385, 16_386, 40_000, 200_000] {
+            wanted(&of_length(lines, length)).same(random);
+        }
+    });
+}
+
+#[test]
+fn texts_of_any_bytes() {
+    let mut random = Random::new(47);
+    for most in [40, 40, 40, 40, 20_000] {
+        for _ in 0..500 {
+            let length = random.below(most) as usize;
+            let text: Vec<u8> = (0..length).map(|_| random.bits() as u8).collect();
+            wanted(&text).same(&mut random);
+        }
+    }
+}
