@@ -1,4 +1,5 @@
-//! Looks for the archive and, if it is there, links it and sets `have_archive`.
+//! Looks for the archive and, if it is there, links it and sets `have_archive`. Looks for the planning
+//! program and, if it is there, sets `have_program`.
 
 use std::path::PathBuf;
 
@@ -12,5 +13,11 @@ fn main() {
         println!("cargo:rustc-cfg=have_archive");
         println!("cargo:rustc-link-search=native={}", folder.display());
         println!("cargo:rustc-link-lib=static=capi");
+    }
+    println!("cargo:rustc-check-cfg=cfg(have_program)");
+    let program = root.join("../../target/bin/riscadru_plan");
+    println!("cargo:rerun-if-changed={}", program.display());
+    if program.exists() {
+        println!("cargo:rustc-cfg=have_program");
     }
 }
