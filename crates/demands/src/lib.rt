@@ -1,0 +1,1 @@
+// The demands of the customer as theorems over the contracts' own definitions: see proofs/.
