@@ -1,6 +1,6 @@
 /* Riscadru: trip planning for feeder relay panels. The functions that other software calls.
  *
- * Link with: -Ltarget/staticlib -lcapi (built by `rt staticlib capi`).
+ * Link with the two words that `./riscadru build` prints.
  *
  * A pointer and the length behind it belong together: the bytes from the pointer on, as many as the
  * length says, stay lent for the call. A slice of no bytes may have any pointer but NULL. Lent bytes
@@ -18,6 +18,9 @@ extern "C" {
 
 /* An answer is a number, or refusal N as 2^64 - 1 - N. The refusals are numbered as in document 01. */
 #define RISCADRU_REFUSED(n) (UINT64_MAX - (uint64_t)(n))
+
+/* The answer of riscadru_lookup where no entry is found. No refusal and no entry has this number. */
+#define RISCADRU_NONE UINT64_MAX
 
 /* Reads a plan text and writes the plan again, to the front of `out`.
  *
@@ -50,6 +53,67 @@ uint64_t riscadru_plan_table(const uint8_t *text, size_t text_length, uint8_t *t
  * bytes are more than lent, and `out` is as it was.
  */
 uint64_t riscadru_plan_listing(const uint8_t *text, size_t text_length, uint8_t *out, size_t out_length);
+
+/* Checks a start table, wherever it comes from, with the worst delay that is stated for it.
+ *
+ * `table` holds the table's words, 32-bit, little-endian, five words to an entry; one to three stray
+ * last bytes are no word and are ignored. It may have any number of bytes, and `delay` may be any
+ * 64-bit number.
+ *
+ * Answer: 0, the table is sound for the plan and the delay. Or the first refusal that applies: 1, the
+ * text exceeds 16,384 bytes or is not of the form; 2 to 9, the plan breaks that rule first; 12 to 20,
+ * the table breaks that rule first.
+ */
+uint64_t riscadru_check_table(const uint8_t *text, size_t text_length, const uint8_t *table, size_t table_length,
+                              uint64_t delay);
+
+/* Finds what a unit's kernel has to take up next at a tick: a process to start, or a message or a
+ * condition's value to send.
+ *
+ * The kernel lends the plan text and the start table, which are the same for all units. `table` holds
+ * the table's words, 32-bit, little-endian, five words to an entry; stray last bytes that make no whole
+ * entry are ignored. It may have any number of bytes, and the five numbers may be any of their types:
+ *
+ *   node    the unit's own number, as slots and processes of the plan name it.
+ *   tick    the present tick; a run begins with tick 0.
+ *   heard   the conditions whose value the unit has heard by now: bit k, where bit 0 is the lowest, is 1
+ *           once the broadcast of condition k has arrived. The unit that decides a condition hears it
+ *           when its own broadcast has arrived, as all others do.
+ *   values  the values heard: bit k is 1 if condition k is true and 0 if it is false. A bit that is 0 in
+ *           `heard` makes no difference here.
+ *   first   the number of the entry to begin at; entries are numbered from 0.
+ *
+ * Answer: the number of the first entry, from `first` on, that is the node's and at the tick, and whose
+ * known bits are all heard, with the heard values at those bits. A message or a broadcast is an entry of
+ * the node that sends it; an entry of a row that the plan lacks is no node's. Or RISCADRU_NONE, there is
+ * no such entry: so for a node that the plan lacks, and for a `first` past the last entry. Or a refusal:
+ * 1, the text exceeds 16,384 bytes or is not of the form; 2 to 9, the plan breaks that rule first.
+ *
+ * At each tick, once it has taken in what has ended and arrived, a kernel asks with `first` 0, takes up the
+ * entry that it is given, asks again with `first` one past it, and so on until there is none:
+ *
+ *   uint64_t i = riscadru_lookup(text, text_length, table, table_length, node, tick, heard, values, 0);
+ *   while (i < table_length / 20) {
+ *       take_up(table + 20 * i);
+ *       i = riscadru_lookup(text, text_length, table, table_length, node, tick, heard, values, i + 1);
+ *   }
+ *
+ * An entry's 20 bytes are five words: its row; its known bits and their values; its tick; and its place in
+ * the frame. Rows are numbered from 0, processes first, then edges, then conditions, each in the order of
+ * the plan text: the process is to be started, the edge's message or the condition's value sent.
+ */
+uint64_t riscadru_lookup(const uint8_t *text, size_t text_length, const uint8_t *table, size_t table_length,
+                         uint32_t node, uint32_t tick, uint32_t heard, uint32_t values, size_t first);
+
+/* Where a row's entries stand in a start table: from the first entry of that row to the next of another
+ * row. `table` is as for riscadru_lookup, and `row` may be any number.
+ *
+ * Answer of riscadru_row_start: how many bytes of `table` stand before them, and 0 if there are none.
+ * Answer of riscadru_row_length: how many bytes they have, 20 for each entry, and 0 if there are none.
+ * Neither has a refusal.
+ */
+uint64_t riscadru_row_start(const uint8_t *table, size_t table_length, uint32_t row);
+uint64_t riscadru_row_length(const uint8_t *table, size_t table_length, uint32_t row);
 
 #ifdef __cplusplus
 }

@@ -1,3 +1,5 @@
+pub mod Checks
 pub mod Copy
 pub mod Listing
+pub mod Lookup
 pub mod Tables

@@ -1,4 +1,7 @@
 // The functions that other software calls, over numbers and byte slices. include/riscadru.h says each contract in words.
+pub mod checking;
+pub mod lookup;
+
 use listing::Listed;
 use plan::Plan;
 use plan::refusals::Refusal;

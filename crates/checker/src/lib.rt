@@ -69,8 +69,8 @@ fn no_processes() -> [u32; 64]
     [0u32; 64]
 }
 
-// How many combinations some conditions have.
-fn how_many(conditions: usize) -> u32
+// How many combinations some conditions have. It is pub for the crate check_bytes.
+pub fn how_many(conditions: usize) -> u32
     requires { ⌜ conditions ≤ 6 ⌝ }
     ensures { λ r. ⌜ (r ≡ 2 ^ conditions) × (r ≤ 64) ⌝ }
 {
@@ -97,8 +97,8 @@ fn is_local(processes: usize, tell: usize, remote: &[u32; 128], row: usize) -> b
     false
 }
 
-// Whether refusal 13 applies to the entry whose five words begin at table[at].
-fn ill_formed<'a>(
+// Whether refusal 13 applies to the entry whose five words begin at table[at]. It is pub for the crate check_bytes.
+pub fn ill_formed<'a>(
     table: &'a [u32],
     at: usize,
     processes: usize,
@@ -297,20 +297,20 @@ fn try_all(b: Board, table: &[u32], combinations: u32) -> Found
 }
 
 // The answer to what is found in all combinations, given the stated delay.
-fn judged(found: Found, delay: u32) -> Checked
+fn judged(found: Found, delay: u64) -> Checked
     ensures { λ r. ⌜ r ≡ judged-by found delay ⌝ }
 {
     if found.first != 20 {
         return Checked::Refused(found.first);
     }
-    if delay != found.delay {
+    if delay != found.delay as u64 {
         return Checked::Refused(20);
     }
     Checked::Accepted
 }
 
-// Checks a table and a stated delay for a plan in which refusals 2 to 9 find nothing.
-fn check_words(p: Plan, table: &[u32], delay: u32) -> Checked
+// Checks a table and any stated delay for a plan in which refusals 2 to 9 find nothing. It is pub for the crate check_bytes.
+pub fn check_words(p: Plan, table: &[u32], delay: u64) -> Checked
     requires { ⌜ plan-refusal (lines p) ≡ nothing ⌝ }
     ensures { λ r. ⌜ r ≡ answer-of (table-refusal (lines p) (now (table .entry)) delay) ⌝ }
 {
@@ -326,8 +326,8 @@ fn check_words(p: Plan, table: &[u32], delay: u32) -> Checked
     judged(try_all(b, table, combinations), delay)
 }
 
-// Checks any words as a start table, five words to an entry, with the delay stated for it, for any plan in memory.
-pub fn check_table(p: Plan, table: &[u32], delay: u32) -> Checked
+// Checks any words as a start table, five words to an entry, with any delay stated for it, for any plan in memory.
+pub fn check_table(p: Plan, table: &[u32], delay: u64) -> Checked
     ensures { λ r. ⌜ r ≡ answer-of (check (lines p) (now (table .entry)) delay) ⌝ }
 {
     let refusal = refuse(p);

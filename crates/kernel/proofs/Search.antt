@@ -3,21 +3,21 @@
 -- Assumes nothing.
 use mathlib.Core.Path.{_≡_, sym, ap, _∙_}
 use mathlib.Core.Logic.{_⊎_, inl, inr}
-use mathlib.Core.Bool.{Bool, true, false}
+use mathlib.Core.Bool.{Bool, true, false, _&&_}
 use mathlib.Core.List.{List, _∷_}
 use Prim.Native.Nat.{ℕ, suc, _+_, _-_, _/_, _≤_, _<_}
 use native.Mathlib.Numerals.{add-one}
 use native.Mathlib.Omega.{arith}
-use lib.Dec.{ltb}
+use lib.Dec.{eqb, ltb}
 use lib.ListN.{length, drop}
 use borrow.Author.Tests.{ltb-true, ltb-false, lt-ltb, le-ltb, eq-eqb, ne-eqb}
-use Rattle.lists.proofs.Tests.{two, and-false}
+use Rattle.lists.proofs.Tests.{two, and-false, and-true}
 use Rattle.model.specs.Table.{Entry, entries-of, bits-met}
 use Rattle.model.specs.Lookup.{entry, none}
 use Rattle.row_query.specs.Entries.{entry-at}
 use Rattle.row_query.proofs.Entries.{entries-next, entries-end}
 use Rattle.plan.specs.Refusing.{at}
-use Rattle.kernel.specs.Finding.{process-of-row, fits-by, find-by, Small}
+use Rattle.kernel.specs.Finding.{process-of-row, row-fits, fits-by, find-by, Small}
 
 module _ (f : Entry → Bool) where
   passes : (e : Entry) (es : List Entry) (i : ℕ) → f e ≡ true → find-by f (e ∷ es) i ≡ entry i
@@ -41,24 +41,31 @@ module _ (f : Entry → Bool) where
         ap (λ (es : List Entry). find-by f es i) (entries-next ws i l) ∙ fails (entry-at ws i) (drop (i + 1) (entries-of ws)) i q
         ∙ ap (find-by f (drop (i + 1) (entries-of ws))) (sym (add-one i))
 
--- the test of an entry over a plan's arrays
+-- the test of an entry over a plan's arrays: another tick decides it, and at the tick its row and column do
 module _ (from decider nodes : List ℕ) (processes tell rows n t h v : ℕ) (e : Entry) where
   pub other-tick : (e .tick ≡ t → ⊥) → fits-by from decider nodes processes tell rows n t h v e ≡ false
   unfolding fits-by
   other-tick q = simp (ne-eqb (e .tick) t q, and-false)
 
-  pub no-row : rows ≤ e .row → fits-by from decider nodes processes tell rows n t h v e ≡ false
-  unfolding fits-by
-  no-row l = rw (le-ltb (e .row) rows l)
+  pub at-tick : e .tick ≡ t → fits-by from decider nodes processes tell rows n t h v e ≡ row-fits from decider nodes processes tell rows n h v (e .row) (e .known) (e .values)
+  unfolding fits-by row-fits
+  at-tick q =
+      rw (eq-eqb (e .tick) t q, and-true (ltb (e .row) rows && eqb (at nodes (process-of-row from decider processes tell (e .row))) n))
 
-  pub other-node : (at nodes (process-of-row from decider processes tell (e .row)) ≡ n → ⊥) → fits-by from decider nodes processes tell rows n t h v e ≡ false
-  unfolding fits-by
-  other-node q = simp (ne-eqb (at nodes (process-of-row from decider processes tell (e .row))) n q, and-false)
+-- the test of a row and a column
+module _ (from decider nodes : List ℕ) (processes tell rows n h v row known values : ℕ) where
+  pub no-row : rows ≤ row → row-fits from decider nodes processes tell rows n h v row known values ≡ false
+  unfolding row-fits
+  no-row l = rw (le-ltb row rows l)
 
-  pub by-column : e .row < rows → at nodes (process-of-row from decider processes tell (e .row)) ≡ n → e .tick ≡ t →
-      fits-by from decider nodes processes tell rows n t h v e ≡ bits-met 32 (e .known) (e .values) h v
-  unfolding fits-by
-  by-column l q u = rw (lt-ltb (e .row) rows l, eq-eqb (at nodes (process-of-row from decider processes tell (e .row))) n q, eq-eqb (e .tick) t u)
+  pub other-node : (at nodes (process-of-row from decider processes tell row) ≡ n → ⊥) → row-fits from decider nodes processes tell rows n h v row known values ≡ false
+  unfolding row-fits
+  other-node q = simp (ne-eqb (at nodes (process-of-row from decider processes tell row)) n q, and-false)
+
+  pub by-column : row < rows → at nodes (process-of-row from decider processes tell row) ≡ n →
+      row-fits from decider nodes processes tell rows n h v row known values ≡ bits-met 32 known values h v
+  unfolding row-fits
+  by-column l q = rw (lt-ltb row rows l, eq-eqb (at nodes (process-of-row from decider processes tell row)) n q)
 
 -- a row belongs to a process
 pub process-below : (from decider : List ℕ) (processes tell rows r : ℕ) → Small from decider processes tell rows → r < rows →

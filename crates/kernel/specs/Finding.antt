@@ -22,6 +22,11 @@ found-of (refusal n) = Refused n
 abbrev pub process-of-row : List ℕ → List ℕ → ℕ → ℕ → ℕ → ℕ
 process-of-row from decider processes tell r = if ltb r processes then r else if ltb r tell then at from (r - processes) else at decider (r - tell)
 
+-- an entry of a row and with a column is of node n, and its column is met by the heard bits h with the values v
+unfoldable pub row-fits : List ℕ → List ℕ → List ℕ → ℕ → ℕ → ℕ → ℕ → ℕ → ℕ → ℕ → ℕ → ℕ → Bool
+row-fits from decider nodes processes tell rows n h v row known values =
+    ltb row rows && eqb (at nodes (process-of-row from decider processes tell row)) n && bits-met 32 known values h v
+
 -- an entry is of node n at tick t, and its column is met by the heard bits h with the values v
 unfoldable pub fits-by : List ℕ → List ℕ → List ℕ → ℕ → ℕ → ℕ → ℕ → ℕ → ℕ → ℕ → Entry → Bool
 fits-by from decider nodes processes tell rows n t h v e =

@@ -12,7 +12,7 @@ ghost use Rattle.model.specs.Table.{bits-met, entries-of};
 ghost use Rattle.model.specs.Lookup as m;
 ghost use Rattle.plan.specs.Memory.{lines};
 ghost use Rattle.row_query.specs.Entries.{entry-at};
-ghost use Rattle.kernel.specs.Finding.{found-of, process-of-row, fits-by, find-by, Small};
+ghost use Rattle.kernel.specs.Finding.{found-of, process-of-row, row-fits, fits-by, find-by, Small};
 
 // What the lookup answers: the number of an entry, that there is none, or the refusal of the plan, 2 to 9.
 pub enum Found {
@@ -57,6 +57,38 @@ fn row_process<'a>(
     wide(decider[row - tell])
 }
 
+// Whether an entry at the tick asked for, of a row and with a column of known bits and their values, is of a node, and its column is met by
+// what is heard.
+pub fn row_fits<'a>(
+    row: u32,
+    known: u32,
+    values: u32,
+    from: &'a [u32; 128],
+    decider: &'a [u32; 6],
+    nodes: &'a [u32; 64],
+    processes: usize,
+    tell: usize,
+    rows: usize,
+    node: u32,
+    heard: u32,
+    told: u32,
+) -> bool
+    requires { ⌜ Small (now from) (now decider) processes tell rows ⌝ }
+    ensures { λ r. ⌜
+        r ≡ row-fits (now (from .entry)) (now (decider .entry)) (now (nodes .entry)) processes tell rows node heard told row known values
+        ⌝ }
+{
+    let number = wide(row);
+    if rows <= number {
+        return false;
+    }
+    let process = row_process(from, decider, processes, tell, number);
+    if nodes[process] != node {
+        return false;
+    }
+    column_met(known, values, heard, told)
+}
+
 // Whether entry i of a table is of a node at a tick, and its column is met by what is heard.
 fn entry_fits<'a>(
     table: &'a [u32],
@@ -81,15 +113,20 @@ fn entry_fits<'a>(
     if table[at + 3] != tick {
         return false;
     }
-    let row = wide(table[at]);
-    if rows <= row {
-        return false;
-    }
-    let process = row_process(from, decider, processes, tell, row);
-    if nodes[process] != node {
-        return false;
-    }
-    column_met(table[at + 1], table[at + 2], heard, told)
+    row_fits(
+        table[at],
+        table[at + 1],
+        table[at + 2],
+        from,
+        decider,
+        nodes,
+        processes,
+        tell,
+        rows,
+        node,
+        heard,
+        told,
+    )
 }
 
 // The first entry from number `first` on that is of a node at a tick and whose column is met by what is heard.

@@ -12,7 +12,7 @@ use lib.Dec.{eqb, leb}
 use lib.ListN.{length, getD, set}
 use borrow.Author.Tests.{eq-eqb, eqb-true, eqb-false, leb-true, le-leb}
 use Rattle.lists.specs.Lists.{if_then_else_, upfrom}
-use Rattle.lists.proofs.Tests.{two, both, join, or-left}
+use Rattle.lists.proofs.Tests.{two, both, join, or-left, or-right}
 use Rattle.lists.proofs.Keep.{shift}
 use Rattle.model.specs.Plan.{Lines}
 use Rattle.model.specs.Activity.{Heard, unheard, heard, all-heard}
@@ -112,6 +112,25 @@ met-known (suc n) k v (new {y = y} {h = h} {h′ = h′} m) u e =
 met-known (suc n) k v (old {y = y} {h = h} {h′ = h′} m) u e =
     let s = met-open n k v y h′ e in
     met-close n k v y h (s .0) (met-known n (k / 2) (v / 2) m (within-open n k y h u .1) (s .1))
+
+-- A column that knows none but the first n conditions is met by some values of these.
+none-known : (m v : ℕ) → bits-met m 0 v 0 0 ≡ true
+unfolding bits-met
+none-known zero v = refl
+none-known (suc m) v = none-known m (v / 2)
+
+own-bit : (k v : ℕ) (b : Bool) → eqb (v % 2) 1 ≡ b → Bit k v (heard b)
+unfolding low
+own-bit k v true e = or-right (eqb (k % 2) 0) _ e
+own-bit k v false e = or-right (eqb (k % 2) 0) _ (eq-eqb (v % 2) 0 (let q = eqb-false (v % 2) 1 e in omega arith))
+
+pub met-by : (m n k v : ℕ) → n ≤ m → k < 2 ^ n → (c : List Bool) × (length c ≡ n) × Met m k v (all-heard c)
+met-by m zero k v l u = let q : k ≡ 0 = omega arith in ([], refl, rw q (none-known m v))
+met-by zero (suc n) k v l u = absurd (omega arith)
+met-by (suc m) (suc n) k v l u =
+    let r = met-by m n (k / 2) (v / 2) (omega arith) (omega (arith, pow-suc 2 n)) in
+    let b = eqb (v % 2) 1 in
+    (b ∷ r .0, ap suc (r .1), met-close m k v (heard b) (all-heard (r .0)) (own-bit k v b refl) (r .2))
 
 -- A column that a combination meets is met too with another value of condition k, or else it names k: where its bits are known, k is.
 abbrev pub Named : ℕ → ℕ → List Bool → ℕ → Type 0

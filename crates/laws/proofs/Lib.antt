@@ -28,6 +28,7 @@
 --   Combinations    all combinations, and tests over them
 --   Lawful          of a lawful table each due row is met exactly once, and no other
 --   Checks, Sound   `sound-iff`: refusals 12 to 20 find nothing just where the table is lawful
+--   Counting        `too-many`: a table with more entries than combinations times rows has a row that is met twice
 --
 -- Runs
 --   Calls           the calls of a unit at a tick give exactly the entries that fit
@@ -62,6 +63,7 @@ pub mod Combinations
 pub mod Lawful
 pub mod Checks
 pub mod Sound
+pub mod Counting
 pub mod Calls
 pub mod RunTick
 pub mod RunHeard

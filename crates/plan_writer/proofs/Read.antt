@@ -25,7 +25,7 @@ written-is-read p lent bytes answer h a =
     let w = wrote-text (plan-refusal p) (fitting lent (print p)) (print p) bytes h in
     answers-unique a (rw (w .1) at (written-read p (w .0)))
 
-of-read : (bytes : List ℕ) (r : Reading) (p : Lines) → Answers-text bytes r → r ≡ reads p → (plan-refusal p ≡ nothing) × Means bytes p
+pub of-read : (bytes : List ℕ) (r : Reading) (p : Lines) → Answers-text bytes r → r ≡ reads p → (plan-refusal p ≡ nothing) × Means bytes p
 unfolding after-refusal
 of-read bytes r p (too-long l) e = absurd (let z : _≡_ {A = ℕ} 0 1 = cc in omega arith)
 of-read bytes r p (of-no-form f) e = absurd (let z : _≡_ {A = ℕ} 0 1 = cc in omega arith)

@@ -54,7 +54,7 @@ module _ (ws : List ℕ) (r i : ℕ) where
 
 -- the part that holds a row's entries, from how many entries stand before it (a) and in it (b)
 module _ (ws : List ℕ) (r a b : ℕ) (pa : a ≡ before-row r (entries-of ws)) (pb : b ≡ run-of-row r (drop a (entries-of ws))) where
-  length-same : row-length ws r ≡ 5 * b
+  pub length-same : row-length ws r ≡ 5 * b
   unfolding row-length
   length-same = sym (ap (λ (n : ℕ). 5 * n) (pb ∙ ap (λ (n : ℕ). run-of-row r (drop n (entries-of ws))) pa))
 

@@ -1,8 +1,8 @@
--- The words that bytes hold: how many there are, the one at a place, and those from a place on.
+-- The words that bytes hold: how many there are, the one at a place, that it is a number of 32 bits, and those from a place on.
 -- Assumes nothing.
 use mathlib.Core.Path.{_≡_, refl, sym, ap, _∙_}
 use mathlib.Core.List.{List, [], _∷_}
-use Prim.Native.Nat.{ℕ, zero, suc, _+_, _*_, _/_, _<_}
+use Prim.Native.Nat.{ℕ, zero, suc, _+_, _*_, _/_, _<_, _^_}
 use native.Mathlib.Omega.{arith}
 use lib.ListN.{length, getD, drop}
 use Rattle.model.specs.Firmware.{words-of}
@@ -38,6 +38,10 @@ words-at (a ∷ b ∷ c ∷ d ∷ bytes) (suc i) l =
     words-at bytes i (omega arith)
     ∙ sym (past-four a b c d bytes (i * 4))
     ∙ ap (word-from (a ∷ b ∷ c ∷ d ∷ bytes)) e
+
+-- words of bytes are numbers of 32 bits
+pub words-small : (bytes : List ℕ) → ((i : ℕ) → getD bytes i 0 < 256) → (i : ℕ) → i < length (words-of bytes) → getD (words-of bytes) i 0 < 2 ^ 32
+words-small bytes h i l = let at : ℕ = i * 4 in omega (arith, words-at bytes i l, h at, h (at + 1), h (at + 2), h (at + 3))
 
 -- without the first k words
 pub words-drop : (k : ℕ) (bytes : List ℕ) → words-of (drop (4 * k) bytes) ≡ drop k (words-of bytes)

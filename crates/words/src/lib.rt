@@ -1,7 +1,7 @@
 // Words of 32 bits in lent bytes, four bytes a word, the lowest first: so tables and frame lists are lent from C.
 ghost use mathlib.Core.Path.{_≡_};
 ghost use Prim.Native.Nat.{_+_, _*_, _<_, _≤_, min};
-ghost use lib.ListN.{length, getD, take};
+ghost use lib.ListN.{length, getD, take, drop};
 ghost use lib.Seq.{sets};
 ghost use Rattle.lists.specs.Front.{front};
 ghost use Rattle.model.specs.Firmware.{words-of};
@@ -35,6 +35,19 @@ pub fn word_at(bytes: &[u8], i: usize) -> u32
 {
     let at = i * 4;
     word_of(bytes[at], bytes[at + 1], bytes[at + 2], bytes[at + 3])
+}
+
+// Reads words from place `from` on, as many as are lent to read them into.
+pub fn read_words<'a>(bytes: &'a [u8], from: usize, out: &mut [u32])
+    requires { ⌜ from + length (now out) ≤ length (words-of (now bytes)) ⌝ }
+    ensures { λ r. ⌜ now (out .exit) ≡ take (length (now (out .entry))) (drop from (words-of (now (bytes .entry)))) ⌝ }
+{
+    let mut i: usize = 0;
+    while i < out.len() {
+        let at = from + i;
+        out[i] = word_at(bytes, at);
+        i += 1;
+    }
 }
 
 // Stores the four bytes of a word from place `at` on.

@@ -1,6 +1,7 @@
 -- `checker::judged` meets its contract: the number where it is not 20, else the two delays compared.
 -- Assumes nothing.
 use native.Mathlib.Omega.{arith}
+use borrow.Author.Needs.{needs}
 use borrow.Author.Tests.{eq-eqb, ne-eqb}
 use Rattle.checker.specs.Checker.{judged-by}
 use Rattle.checker.proofs.judged.Statement.{statement}
@@ -9,6 +10,9 @@ use Rattle.checker.proofs.judged.Tie as tie
 returns : tie.Need-returns
 unfolding judged-by
 returns c = let a = c .before .before .args in rw (ne-eqb (a .found .first) 20 (c .if1 .taken))
+
+cast-if2 : tie.Need-cast-if2
+cast-if2 c = search needs
 
 returns-2 : tie.Need-returns-2
 unfolding judged-by
@@ -25,4 +29,4 @@ returns-3 c =
     rw (eq-eqb (a .found .first) 20 (e .if1 .left), eq-eqb (a .delay) (a .found .delay) (omega (arith, c .if2 .left)))
 
 pub judged-spec : {M : Type 1} → statement M
-judged-spec = tie.close (tie.spec returns returns-2 returns-3)
+judged-spec = tie.close (tie.spec returns cast-if2 returns-2 returns-3)

@@ -1,0 +1,120 @@
+-- A table with more entries than combinations times rows has a row that some combination meets twice: each entry that is not ill-formed is met in some combination, and
+-- where refusal 14 finds nothing, a combination meets at most one entry of each row.
+-- Assumes nothing.
+use mathlib.Core.Path.{_≡_, refl, sym, ap, _∙_}
+use mathlib.Core.Bool.{Bool, true, false, not}
+use mathlib.Core.List.{List, [], _∷_, map, List·Memᴰ as In, List·Memᴰ·head as here, List·Memᴰ·tail as there, List·Memᴰ·not-nil as in-none}
+use Prim.Native.Nat.{ℕ, zero, suc, _+_, _*_, _^_, _≤_, _<_}
+use native.Mathlib.Nat.{pow-suc, pow-le-pow-right, mul-le-mul-left}
+use native.Mathlib.Omega.{arith}
+use lib.ListN.{length, length-map}
+use borrow.Author.Tests.{leb-false, not-true}
+use Rattle.lists.specs.Lists.{if_then_else_, any, keep, repeated}
+use Rattle.lists.proofs.Tests.{clash, neither, is-true}
+use Rattle.lists.proofs.Members.{none-in, keep-in, map-in, no-members, one-or-none}
+use Rattle.lists.proofs.Different.{different-few}
+use Rattle.lists.proofs.Sums.{length-each}
+use Rattle.model.specs.Plan.{Lines}
+use Rattle.model.specs.Activity.{all-heard, combinations-of, combinations}
+use Rattle.model.specs.Bus.{rows}
+use Rattle.model.specs.Log.{Placed, Log}
+use Rattle.model.specs.Refusals.{nothing, plan-refusal}
+use Rattle.model.specs.Table.{Entry, column-met}
+use Rattle.model.specs.Checking.{ill-formed, own, met-entries, met-log, due, not-once, in-some}
+use Rattle.laws.proofs.Good.{good}
+use Rattle.laws.proofs.Columns.{met-by}
+use Rattle.laws.proofs.Combinations.{in-combinations, combination-length, in-no}
+use Rattle.laws.proofs.Lawful.{once-different, met-of}
+use Rattle.laws.proofs.Checks.{none-14}
+
+-- what a test keeps of a part is no more than what it keeps of the whole
+keep-part : {A : Type 0} (f g : A → Bool) (xs : List A) → length (keep f (keep g xs)) ≤ length (keep f xs)
+keep-part f g [] = omega arith
+keep-part {A} f g (x ∷ xs) = at (g x) (f x) refl (keep-part f g xs)
+  where
+    at : (a b : Bool) → f x ≡ b → length (keep f (keep g xs)) ≤ length (keep f xs) →
+        length (keep f (if a then (x ∷ keep g xs) else keep g xs)) ≤ length (if b then (x ∷ keep f xs) else keep f xs)
+    at true true e l = rw e (omega arith)
+    at true false e l = rw e l
+    at false true e l = omega arith
+    at false false e l = l
+
+-- what a test keeps and what it leaves
+keep-rest : {A : Type 0} (f : A → Bool) (xs : List A) → length xs ≡ length (keep f xs) + length (keep (λ x. not (f x)) xs)
+keep-rest f [] = refl
+keep-rest f (x ∷ xs) = at (f x) (keep-rest f xs)
+  where
+    at : (b : Bool) → length xs ≡ length (keep f xs) + length (keep (λ x. not (f x)) xs) →
+        suc (length xs) ≡ length (if b then (x ∷ keep f xs) else keep f xs) + length (if not b then (x ∷ keep (λ x. not (f x)) xs) else keep (λ x. not (f x)) xs)
+    at true e = omega arith
+    at false e = omega arith
+
+-- elements of which each passes one of some tests are at most as many as the tests, times how many pass one test
+passing-few : {A B : Type 0} (t : B → A → Bool) (k : ℕ) (cs : List B) (es : List A) →
+    ((e : A) → In e es → (c : B) × In c cs × (t c e ≡ true)) → ((c : B) → In c cs → length (keep (t c) es) ≤ k) → length es ≤ k * length cs
+passing-few t k [] es some few =
+    let e : es ≡ [] = no-members es (λ e m. in-none (some e m .1)) in
+    omega (arith, ap length e)
+passing-few {A} {B} t k (c ∷ cs) es some few =
+    let rest : List A = keep (λ e. not (t c e)) es in
+    let r : length rest ≤ k * length cs =
+    passing-few t k cs rest (λ e m. let q = keep-in (λ e. not (t c e)) es m in later e (q .1) (some e (q .0)))
+    (λ d m. (let l = few d (there m) in omega (arith, keep-part (t d) (λ e. not (t c e)) es))) in
+    let s : k * suc (length cs) ≡ k + k * length cs = omega arith in
+    omega (arith, keep-rest (t c) es, few c (here refl))
+  where
+    later : (e : A) → not (t c e) ≡ true → (d : B) × In d (c ∷ cs) × (t d e ≡ true) → (d : B) × In d cs × (t d e ≡ true)
+    later e n (d, here q, s) = clash (ap (λ x. t x e) (sym q) ∙ s) (not-true _ n)
+    later e n (d, there m, s) = (d, m, s)
+
+few-combinations : (n : ℕ) → length (combinations-of n) ≤ 2 ^ n
+few-combinations zero = omega arith
+few-combinations (suc n) =
+    omega (arith, few-combinations n, pow-suc 2 n, length-each (λ c. (false ∷ c) ∷ (true ∷ c) ∷ []) (combinations-of n) 2 (λ c m. omega arith))
+
+-- the row and the known bits of an entry in which refusal 13 finds nothing
+within : (p : Lines) (e : Entry) → ill-formed p e ≡ false → (e .row < rows p) × (e .known < 2 ^ length (p .conditions))
+unfolding ill-formed
+within p e f =
+    let a7 = neither _ _ f in
+    let a6 = neither _ _ (a7 .0) in
+    let a5 = neither _ _ (a6 .0) in
+    let a4 = neither _ _ (a5 .0) in
+    let a3 = neither _ _ (a4 .0) in
+    (leb-false _ _ (neither _ _ (a3 .0) .0), leb-false _ _ (a3 .1))
+
+module _ (p : Lines) (fine : plan-refusal p ≡ nothing) (es : List Entry) (formed : any (ill-formed p) es ≡ false) where
+  -- each entry is met in some combination
+  met-somewhere : (e : Entry) → In e es → (c : List Bool) × In c (combinations p) × (column-met (all-heard c) e ≡ true)
+  unfolding column-met
+  met-somewhere e m =
+      let r = met-by 32 (length (p .conditions)) (e .known) (e .values) (omega (arith, good p fine .few-conditions)) (within p e (none-in (ill-formed p) formed m) .1) in
+      (r .0, in-combinations p (r .0) (r .1), r .2)
+
+  -- where 14 finds nothing, a combination meets no more entries than there are rows
+  met-few : (c : List Bool) → not-once p es c ≡ false → length (keep (column-met (all-heard c)) es) ≤ rows p
+  unfolding met-log met-entries
+  met-few c h =
+      let log : Log = met-log es c in
+      let low : (x : Placed) → In x log → x .row < rows p =
+      λ x m. (let e = met-of es c x m in rw (e .3) (within p (e .0) (none-in (ill-formed p) formed (e .1)) .0)) in
+      let once : repeated (map (λ x. x .row) log) ≡ false =
+      once-different log (λ x m. (let n = none-14 p es c .0 h (x .row) (low x m) in omega (arith, one-or-none (due p c (x .row))))) in
+      let few : length (map (λ x. x .row) log) ≤ rows p =
+      different-few (rows p) (map (λ x. x .row) log) once (λ r m. (let x = map-in (λ x. x .row) log m in rw (x .2) (low (x .0) (x .1)))) in
+      omega (arith, length-map log (λ x. x .row), length-map (met-entries es c) own)
+
+  -- at most one entry for each row and combination
+  pub entries-few : in-some p (not-once p es) ≡ false → length es ≤ 64 * rows p
+  entries-few h =
+      let g = good p fine in
+      let n = passing-few (λ c e. column-met (all-heard c) e) (rows p) (combinations p) es met-somewhere (λ c m. met-few c (in-no p (not-once p es) .0 h c (combination-length p c m))) in
+      let q : 2 ^ length (p .conditions) ≤ 64 = pow-le-pow-right {n = 2} (omega arith) {i = length (p .conditions)} {j = 6} (g .few-conditions) in
+      let m : length (combinations p) ≤ 64 = omega (arith, few-combinations (length (p .conditions))) in
+      omega (arith, mul-le-mul-left (rows p) m)
+
+  -- so where there are more than 64 times 198, 14 applies in some combination
+  pub too-many : 12672 < length es → in-some p (not-once p es) ≡ true
+  too-many l =
+      let g = good p fine in
+      is-true (in-some p (not-once p es)) (λ h. omega (arith, entries-few h, g .few-processes, g .few-edges, g .few-conditions))
