@@ -2,6 +2,7 @@
 //!
 //! Everything follows from a seed, so that a test that fails can be run again.
 
+pub mod any_tables;
 pub mod broken;
 pub mod plans;
 pub mod random;

@@ -188,7 +188,7 @@ fn late_broadcast(lines: &Lines, mut all: Vec<Entry>, random: &mut Random) -> Op
     Some(words(&all))
 }
 
-/// A process that starts a tick before an input has come, or an item that is sent a tick before
+/// A process that starts a tick or more before an input has come, or an item that is sent so before
 /// its sender's end, with every value of its column known all the same.
 fn too_early(lines: &Lines, table: &[u32], random: &mut Random) -> Option<Vec<u32>> {
     let mut all = entries(table);
@@ -205,7 +205,8 @@ fn too_early(lines: &Lines, table: &[u32], random: &mut Random) -> Option<Vec<u3
     if tick < known_from {
         return None;
     }
-    all[number].tick = random.between(known_from, tick) as u32;
+    let any = random.between(known_from, tick);
+    all[number].tick = random.one_of(&[tick, any]) as u32;
     Some(words(&all))
 }
 
@@ -352,7 +353,8 @@ fn with_delay(lines: &Lines, words: Vec<u32>) -> Table {
 
 /// Sound tables that no planner made, from a sound one.
 pub fn sound_variants(lines: &Lines, table: &Table, random: &mut Random) -> Vec<Table> {
-    let mut variants = vec![shuffled(table, random), serial(lines, random)];
+    let serial = serial(lines, random);
+    let mut variants = vec![shuffled(table, random), fully_merged(&serial), serial];
     variants.extend(moved_by_rounds(lines, table, random));
     variants.extend(to_the_last_tick(lines, table));
     variants.extend(merged(table));
@@ -515,18 +517,41 @@ fn always_known(courses: &[(Combination, Course)], entry: &Entry, condition: usi
 /// Two entries that differ in one value only, replaced by one that does not name the condition.
 pub fn merged(table: &Table) -> Option<Table> {
     let mut all = entries(&table.words);
-    let pairs = (0..all.len()).flat_map(|b| (0..b).map(move |a| (a, b)));
-    let (a, b) = pairs.into_iter().find(|&(a, b)| {
+    merge_two(&mut all).then(|| Table {
+        words: words(&all),
+        delay: table.delay,
+    })
+}
+
+/// Entries of one row merged as long as there are two that differ in one value only.
+pub fn fully_merged(table: &Table) -> Table {
+    let all = entries(&table.words);
+    let rows = all.chunk_by(|a, b| a.row == b.row).map(|row| {
+        let mut row = row.to_vec();
+        while merge_two(&mut row) {}
+        row
+    });
+    Table {
+        words: words(&rows.collect::<Vec<_>>().concat()),
+        delay: table.delay,
+    }
+}
+
+/// Replaces the first two entries that differ in one value only by one that does not name the
+/// condition, and tells whether there were two.
+fn merge_two(all: &mut Vec<Entry>) -> bool {
+    let mut pairs = (0..all.len()).flat_map(|b| (0..b).map(move |a| (a, b)));
+    let found = pairs.find(|&(a, b)| {
         let (a, b) = (all[a], all[b]);
         let same_but_values = Entry { values: 0, ..a } == Entry { values: 0, ..b };
         same_but_values && (a.values ^ b.values).count_ones() == 1
-    })?;
+    });
+    let Some((a, b)) = found else {
+        return false;
+    };
     let bit = all[a].values ^ all[b].values;
     all[a].known &= !bit;
     all[a].values &= !bit;
     all.remove(b);
-    Some(Table {
-        words: words(&all),
-        delay: table.delay,
-    })
+    true
 }

@@ -6,6 +6,8 @@
 //!    its `SAFETY` comment why pointers and lengths belong together;
 //! 3. compare it with the function of the crate `reference` in `tests/`.
 
+use std::ops::Range;
+
 mod linked {
     unsafe extern "C" {
         pub fn riscadru_copy_plan(
@@ -32,6 +34,30 @@ mod linked {
             out: *mut u8,
             out_length: usize,
         ) -> u64;
+
+        pub fn riscadru_check_table(
+            text: *const u8,
+            text_length: usize,
+            table: *const u8,
+            table_length: usize,
+            delay: u64,
+        ) -> u64;
+
+        pub fn riscadru_lookup(
+            text: *const u8,
+            text_length: usize,
+            table: *const u8,
+            table_length: usize,
+            node: u32,
+            tick: u32,
+            heard: u32,
+            values: u32,
+            first: usize,
+        ) -> u64;
+
+        pub fn riscadru_row_start(table: *const u8, table_length: usize, row: u32) -> u64;
+
+        pub fn riscadru_row_length(table: *const u8, table_length: usize, row: u32) -> u64;
     }
 }
 
@@ -39,6 +65,12 @@ mod linked {
 pub fn refused(number: u8) -> u64 {
     u64::MAX - u64::from(number)
 }
+
+/// The number by which the lookup says that there is no such entry.
+pub const NONE: u64 = u64::MAX;
+
+/// The number by which the checker accepts a table.
+pub const ACCEPTED: u64 = 0;
 
 /// Reads a plan text and writes the plan again, to the front of the lent bytes.
 pub fn copy_plan(text: &[u8], out: &mut [u8]) -> u64 {
@@ -67,4 +99,63 @@ pub fn plan_table(text: &[u8], table: &mut [u8], frames: &mut [u8], totals: &mut
 pub fn plan_listing(text: &[u8], out: &mut [u8]) -> u64 {
     // SAFETY: each pointer and length are those of one slice, and the two slices do not overlap.
     unsafe { linked::riscadru_plan_listing(text.as_ptr(), text.len(), out.as_mut_ptr(), out.len()) }
+}
+
+/// Checks a table and a stated delay for a plan text.
+pub fn check_table(text: &[u8], table: &[u8], delay: u64) -> u64 {
+    // SAFETY: each pointer and length are those of one slice, and neither slice is written.
+    unsafe {
+        linked::riscadru_check_table(
+            text.as_ptr(),
+            text.len(),
+            table.as_ptr(),
+            table.len(),
+            delay,
+        )
+    }
+}
+
+/// What a unit asks the lookup, in the numbers of C.
+#[derive(Clone, Copy, Debug)]
+pub struct Question {
+    /// The node that asks.
+    pub node: u32,
+    /// The tick.
+    pub tick: u32,
+    /// The bits of the conditions heard.
+    pub heard: u32,
+    /// Their values.
+    pub values: u32,
+    /// The entry number to begin at.
+    pub first: usize,
+}
+
+/// Looks for a node's next entry at a tick, by the values heard.
+pub fn lookup(text: &[u8], table: &[u8], asked: Question) -> u64 {
+    // SAFETY: each pointer and length are those of one slice, and neither slice is written.
+    unsafe {
+        linked::riscadru_lookup(
+            text.as_ptr(),
+            text.len(),
+            table.as_ptr(),
+            table.len(),
+            asked.node,
+            asked.tick,
+            asked.heard,
+            asked.values,
+            asked.first,
+        )
+    }
+}
+
+/// The bytes of a table that hold a row: where they begin, and how many they are.
+pub fn row_query(table: &[u8], row: u32) -> Range<u64> {
+    // SAFETY: pointer and length are those of one slice, which is not written.
+    let (start, length) = unsafe {
+        (
+            linked::riscadru_row_start(table.as_ptr(), table.len(), row),
+            linked::riscadru_row_length(table.as_ptr(), table.len(), row),
+        )
+    };
+    start..start + length
 }

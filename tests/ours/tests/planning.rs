@@ -2,25 +2,21 @@
 //! answers and equal bytes, those that were lent and some on either side of them. Without the
 //! archive there are no tests here; the gate builds it first.
 //!
-//! The variable `RISCADRU_PLANS` sets how many random plans are compared; without it, `PLANS`.
+//! The variable `RISCADRU_PLANS` sets how many random plans are compared (see `ours::comparing`).
 #![cfg(have_archive)]
-
-use std::ops::Range;
 
 use generate::broken::{broken, broken_twice, NUMBERS};
 use generate::plans::{plan, Kind};
 use generate::random::Random;
 use generate::texts::{damaged_texts, of_length};
 use ours::archive::{plan_listing, plan_table, refused};
+use ours::comparing::{bytes, count, random_bytes, Lent, Shares};
 use reference::listing::{write_listing, PROGRAM_FRAME_WORDS, PROGRAM_WORDS};
 use reference::{listing, print, read, Lines};
 use suite::{cases, for_plans, FEW, S, S_LISTING};
 
-/// How many random plans an ordinary run compares.
-const PLANS: u64 = 21_000;
-
 /// Of a thousand random plans, how many are of each kind. They add up to a thousand.
-const SHARES: [(Kind, u64); 7] = [
+const SHARES: Shares = [
     (Kind::Tiny, 400),
     (Kind::DenseBus, 190),
     (Kind::ManyConditions, 110),
@@ -52,11 +48,6 @@ struct Bytes {
     totals: Vec<u8>,
 }
 
-/// Words as bytes, the lowest first.
-fn bytes(words: &[u32]) -> Vec<u8> {
-    words.iter().flat_map(|word| word.to_le_bytes()).collect()
-}
-
 /// What the reference gives for a text, planned once for all that is lent.
 fn wanted(text: &[u8]) -> Wanted<'_> {
     let planned = read(text).and_then(|lines| {
@@ -82,51 +73,6 @@ fn wanted(text: &[u8]) -> Wanted<'_> {
             frames: bytes(&p.frames),
         }),
         listing: printed.unwrap_or_else(reference::refused),
-    }
-}
-
-/// Bytes of which a part is lent. Those on either side of it are there to stay as they were.
-struct Lent {
-    bytes: Vec<u8>,
-    part: Range<usize>,
-}
-
-impl Lent {
-    /// Lends so many bytes, filled with a random pattern, at a random place in memory.
-    fn new(length: usize, random: &mut Random) -> Self {
-        let first = random.between(16, 24) as usize;
-        let step = random.bits() as u8 | 1;
-        let bytes = (0..first + length + 24).map(|i| (i as u8).wrapping_mul(step) ^ 0x5a);
-        Lent {
-            bytes: bytes.collect(),
-            part: first..first + length,
-        }
-    }
-
-    /// The lent part.
-    fn lent(&mut self) -> &mut [u8] {
-        &mut self.bytes[self.part.clone()]
-    }
-
-    /// All bytes, with these at the front of the lent part.
-    fn with(&self, front: &[u8]) -> Vec<u8> {
-        let mut after = self.bytes.clone();
-        after[self.part.start..][..front.len()].copy_from_slice(front);
-        after
-    }
-
-    /// Asserts that all bytes are these.
-    fn assert_is(&self, after: &[u8], what: &str, context: &str) {
-        let differs = (0..after.len()).find(|&i| self.bytes[i] != after[i]);
-        if let Some(place) = differs {
-            panic!(
-                "byte {} of the {} bytes lent for the {what} is {}, not {}; {context}",
-                place as i64 - self.part.start as i64,
-                self.part.len(),
-                self.bytes[place],
-                after[place]
-            );
-        }
     }
 }
 
@@ -229,19 +175,9 @@ impl Wanted<'_> {
     }
 }
 
-/// How many random plans of a kind are compared.
-fn count(kind: Kind) -> u64 {
-    let plans = match std::env::var("RISCADRU_PLANS") {
-        Ok(number) => number.parse().expect("RISCADRU_PLANS: not a number"),
-        Err(_) => PLANS,
-    };
-    let share = SHARES.iter().find(|(of, _)| *of == kind);
-    (plans * share.expect("a share of each kind").1).div_ceil(1_000)
-}
-
 /// Compares the random plans of a kind.
 fn same_plans(kind: Kind) {
-    for number in 0..count(kind) {
+    for number in 0..count(&SHARES, kind) {
         let mut random = Random::new((kind as u64 + 1) << 48 | number);
         let text = print(&plan(kind, &mut random));
         wanted(&text).same(&mut random);
@@ -287,7 +223,7 @@ fn tiny_plans() {
 fn the_shares_add_up() {
     let shares: u64 = SHARES.iter().map(|(_, share)| share).sum();
     assert_eq!(shares, 1_000);
-    assert!(generate::KINDS.iter().all(|&kind| count(kind) > 0));
+    assert!(generate::KINDS.iter().all(|&kind| count(&SHARES, kind) > 0));
 }
 
 #[test]
@@ -373,7 +309,7 @@ fn texts_of_any_bytes() {
     for most in [40, 40, 40, 40, 20_000] {
         for _ in 0..500 {
             let length = random.below(most) as usize;
-            let text: Vec<u8> = (0..length).map(|_| random.bits() as u8).collect();
+            let text = random_bytes(length, &mut random);
             wanted(&text).same(&mut random);
         }
     }
