@@ -1,1 +1,5 @@
 pub mod Kernel
+pub mod KernelC
+pub mod Sentences
+pub mod One
+pub mod Two

@@ -1,0 +1,193 @@
+-- Demand 1 as a theorem over the contracts of the functions that are called: see specs/One.antt.
+-- Assumes nothing.
+use Prim.Native.Nat.{ℕ, _+_, _-_, _≤_, _<_}
+use mathlib.Core.Path.{_≡_, refl, sym, ap, _∙_}
+use mathlib.Core.Logic.{_⊎_, inl, inr}
+use mathlib.Core.List.{List, [], _++_}
+use native.Mathlib.Omega.{arith}
+use lib.Dec.{ltb}
+use lib.ListN.{length}
+use Rattle.model.specs.Plan.{Lines}
+use Rattle.model.specs.Refusals.{nothing, refused, or-else, plan-refusal}
+use Rattle.model.specs.Refusals as m
+use Rattle.model.specs.Text.{print, Means, Reading, Answers-text, fitting, write-plan, bytes-after}
+use Rattle.model.specs.Table.{Result, result, entries-of, answered, room-refusal, plan-answer, table-after, frames-after}
+use Rattle.model.specs.Listing.{words-listing, refused-line, printed, program-prints}
+use Rattle.model.specs.Checking.{table-refusal, check}
+use Rattle.model.specs.Lookup.{unless, lookup}
+use Rattle.model.specs.Lookup as model
+use Rattle.grammar.proofs.Answers.{answers-unique}
+use Rattle.program.proofs.Room.{program-fits}
+use Rattle.plan.specs.declared.Plan.{Plan}
+use Rattle.plan.specs.Memory.{lines, empty-plan}
+use Rattle.plan.specs.declared.refusals.Refusal.the-variants as variant
+use Rattle.plan_reader.specs.declared.Read.{Read}
+use Rattle.plan_reader.specs.Answer.{reading-of, Emptied}
+use Rattle.plan_writer.specs.declared.Written.{Written}
+use Rattle.plan_writer.specs.declared.Written.the-variants as written
+use Rattle.plan_writer.specs.Answer as writer
+use Rattle.planner.specs.declared.Made.{Made}
+use Rattle.planner.specs.declared.Planned.{Planned}
+use Rattle.planner.specs.declared.Planned.the-variants as planned
+use Rattle.planner.specs.Planner as planner
+use Rattle.listing.specs.declared.Listed.{Listed}
+use Rattle.listing.specs.declared.Listed.the-variants as listed
+use Rattle.listing.specs.Answer as listing
+use Rattle.program.specs.Prints.{Prints}
+use Rattle.checker.specs.declared.Checked.{Checked}
+use Rattle.checker.specs.declared.Checked.the-variants as checked
+use Rattle.checker.specs.Checker as checker
+use Rattle.kernel.specs.declared.Found.{Found}
+use Rattle.kernel.specs.declared.Found.the-variants as found
+use Rattle.kernel.specs.Finding.{found-of}
+use Rattle.capi.specs.Listing.{Lists}
+use Rattle.demands.specs.Sentences.{Sentence, first, plan-sentences, bytes-sentences, room-sentences, table-sentences, First-of, First-of-text, Keeps-to, In-number}
+use Rattle.demands.specs.One.{First-of-printed, Demand-1}
+use Rattle.demands.proofs.Firsts.{plan-first, bytes-first, room-first, table-first, plan-then, text-some, text-one, by-text, Told, keeps, keeps-list, keeps-text}
+use Rattle.demands.proofs.Told.{told-read, told-not-read, told-written, told-listed, told-number, told-planned, told-checked}
+use Rattle.demands.proofs.OneC.{c-copying, c-planning, c-checking, c-looking-up, c-row}
+use Rattle.demands.proofs.Within.{Finds, finds-none, finds-one, found-within, part-within}
+
+reading : (text : List ℕ) (r : Read) → Answers-text text (reading-of r) → Emptied r →
+    Keeps-to (First-of-text text plan-sentences) (λ n. r .refusal ≡ variant.Refused n) (r .plan ≡ empty-plan)
+    ((r .refusal ≡ variant.Nothing) × Means text (lines (r .plan)))
+unfolding plan-sentences first
+reading text r a empty =
+    let T : m.Refusal → Type 0 =
+    Told (λ n. r .refusal ≡ variant.Refused n) (r .plan ≡ empty-plan) ((r .refusal ≡ variant.Nothing) × Means text (lines (r .plan))) in
+    let x =
+    by-text text (λ p. []) (λ s x. s ≡ reading-of r → T x) (reading-of r) a (λ n l k e. told-not-read text r n empty e) (λ p m fine e. told-read text r p m e) in
+    keeps-text (λ n. r .refusal ≡ variant.Refused n) (r .plan ≡ empty-plan) ((r .refusal ≡ variant.Nothing) × Means text (lines (r .plan))) text plan-sentences (x .0) (x .1) (x .2 refl)
+
+writing : (p : Plan) (out out-now : List ℕ) (r : Written) → r ≡ writer.answer-of (write-plan (lines p) (length out)) →
+    out-now ≡ bytes-after (write-plan (lines p) (length out)) out →
+    Keeps-to (First-of (plan-sentences (lines p) ++ bytes-sentences (print (lines p)) (length out))) (λ n. r ≡ written.Refused n) (out-now ≡ out)
+    ((n : ℕ) × (r ≡ written.Wrote n))
+unfolding write-plan
+writing p out out-now r e b =
+    let ss : List Sentence = bytes-sentences (print (lines p)) (length out) in
+    let x : m.Refusal = or-else (plan-refusal (lines p)) (fitting (length out) (print (lines p))) in
+    keeps-list (λ n. r ≡ written.Refused n) (out-now ≡ out) ((n : ℕ) × (r ≡ written.Wrote n)) (plan-sentences (lines p) ++ ss) x
+    (plan-then (lines p) ss ∙ ap (or-else (plan-refusal (lines p))) (bytes-first (print (lines p)) (length out))) (told-written (print (lines p)) out out-now x r e b)
+
+planning : (p : Plan) (table frames table-now frames-now : List ℕ) (r : Planned) → r ≡ planner.answer-of (plan-answer (lines p) (length table) (length frames)) →
+    table-now ≡ table-after (plan-answer (lines p) (length table) (length frames)) table →
+    frames-now ≡ frames-after (plan-answer (lines p) (length table) (length frames)) frames →
+    Keeps-to (First-of (plan-sentences (lines p) ++ room-sentences (result (lines p)) (length table) (length frames))) (λ n. r ≡ planned.Refused n)
+    ((table-now ≡ table) × (frames-now ≡ frames)) ((m : Made) × (r ≡ planned.Made m))
+unfolding plan-answer
+planning p table frames table-now frames-now r e t f =
+    let q : Result = result (lines p) in
+    let ss : List Sentence = room-sentences q (length table) (length frames) in
+    let x : m.Refusal = or-else (plan-refusal (lines p)) (room-refusal q (length table) (length frames)) in
+    keeps-list (λ n. r ≡ planned.Refused n) ((table-now ≡ table) × (frames-now ≡ frames)) ((m : Made) × (r ≡ planned.Made m)) (plan-sentences (lines p) ++ ss) x
+    (plan-then (lines p) ss ∙ ap (or-else (plan-refusal (lines p))) (room-first q (length table) (length frames)))
+    (told-planned q table frames table-now frames-now x r e t f)
+
+-- a text put into lent bytes, where 10 is the only sentence
+put : (bytes out out-now : List ℕ) (r : Listed) → r ≡ listing.answer-of (listing.written-of (length out) bytes) →
+    out-now ≡ bytes-after (listing.written-of (length out) bytes) out →
+    Told (λ n. r ≡ listed.Refused n) (out-now ≡ out) ((n : ℕ) × (r ≡ listed.Wrote n)) (fitting (length out) bytes)
+unfolding listing.written-of
+put bytes out out-now r e b = told-listed bytes out out-now (fitting (length out) bytes) r e b
+
+listing-bytes : (bytes out out-now : List ℕ) (r : Listed) → r ≡ listing.answer-of (listing.written-of (length out) bytes) →
+    out-now ≡ bytes-after (listing.written-of (length out) bytes) out →
+    Keeps-to (First-of (bytes-sentences bytes (length out))) (λ n. r ≡ listed.Refused n) (out-now ≡ out) ((n : ℕ) × (r ≡ listed.Wrote n))
+listing-bytes bytes out out-now r e b =
+    keeps-list (λ n. r ≡ listed.Refused n) (out-now ≡ out) ((n : ℕ) × (r ≡ listed.Wrote n)) (bytes-sentences bytes (length out)) (fitting (length out) bytes)
+    (bytes-first bytes (length out)) (put bytes out out-now r e b)
+
+-- what is printed for a text is one text
+printed-one : (text : List ℕ) (lent : ℕ) (x y : m.Refusal) → First-of-printed text lent x → First-of-printed text lent y → x ≡ y
+printed-one text lent x y (r, a, e) (s, b, f) =
+    sym e ∙ ap (λ (z : Reading). first (bytes-sentences (program-prints z) lent)) (answers-unique a b) ∙ f
+
+module _ (text out out-now : List ℕ) where
+  printing : (r : Listed) → Prints text out out-now r →
+      Keeps-to (First-of-printed text (length out)) (λ n. r ≡ listed.Refused n) (out-now ≡ out) ((n : ℕ) × (r ≡ listed.Wrote n))
+  printing r c =
+      let bytes : List ℕ = program-prints (c .reading) in
+      let h : First-of-printed text (length out) (fitting (length out) bytes) = (c .reading, c .of-text, bytes-first bytes (length out)) in
+      keeps (First-of-printed text (length out)) (λ n. r ≡ listed.Refused n) (out-now ≡ out) ((n : ℕ) × (r ≡ listed.Wrote n)) (fitting (length out) bytes) h
+      (λ y k. printed-one text (length out) (fitting (length out) bytes) y h k) (put bytes out out-now r (c .answer) (c .bytes))
+
+  pub c-printing : (answer : ℕ) → Lists text out out-now answer → Keeps-to (First-of-printed text (length out)) (In-number answer) (out-now ≡ out) (answer ≤ length out)
+  unfolding listing.written-of fitting
+  c-printing answer c =
+      let bytes : List ℕ = program-prints (c .reading) in
+      let h : First-of-printed text (length out) (fitting (length out) bytes) = (c .reading, c .of-text, bytes-first bytes (length out)) in
+      keeps (First-of-printed text (length out)) (In-number answer) (out-now ≡ out) (answer ≤ length out) (fitting (length out) bytes) h
+      (λ y k. printed-one text (length out) (fitting (length out) bytes) y h k)
+      (told-number bytes out out-now (ltb (length out) (length bytes)) answer refl (program-fits text (c .reading) (c .of-text)) (c .number) (c .bytes))
+
+-- a refusal of the text or of the planner is printed
+room-printed : (p : Lines) (words room : ℕ) (x : m.Refusal) (n : ℕ) → x ≡ refused n → printed p (answered x (result p)) ≡ refused-line n
+unfolding printed answered
+room-printed p words room x n e = rw e
+
+refusal-printed : (text : List ℕ) (s : Reading) → Answers-text text s → (n : ℕ) →
+    First-of-text text (λ p. plan-sentences p ++ room-sentences (result p) 15000 6000) (refused n) → program-prints s ≡ refused-line n
+unfolding program-prints plan-answer or-else
+refusal-printed text s a n h =
+    let x =
+    by-text text (λ p. room-sentences (result p) 15000 6000) (λ r x. (k : ℕ) → x ≡ refused k → program-prints r ≡ refused-line k) s a
+    (λ j l u k e. (let q : j ≡ k = cc in ap refused-line q))
+    (λ p m fine k e. (let q : or-else (plan-refusal p) (room-refusal (result p) 15000 6000) ≡ refused k = rw fine (sym (room-first (result p) 15000 6000) ∙ e) in
+    room-printed p 15000 6000 _ k q)) in
+    x .2 n (text-one text (λ p. plan-sentences p ++ room-sentences (result p) 15000 6000) (x .0) (refused n) (x .1) h)
+
+checking : (p : Plan) (table : List ℕ) (delay : ℕ) (r : Checked) → r ≡ checker.answer-of (check (lines p) table delay) →
+    Keeps-to (First-of (plan-sentences (lines p) ++ table-sentences (lines p) table delay)) (λ n. r ≡ checked.Refused n) (Unit {0}) (r ≡ checked.Accepted)
+unfolding check
+checking p table delay r e =
+    let ss : List Sentence = table-sentences (lines p) table delay in
+    let x : m.Refusal = or-else (plan-refusal (lines p)) (table-refusal (lines p) table delay) in
+    keeps-list (λ n. r ≡ checked.Refused n) (Unit {0}) (r ≡ checked.Accepted) (plan-sentences (lines p) ++ ss) x
+    (plan-then (lines p) ss ∙ ap (or-else (plan-refusal (lines p))) (table-first (lines p) table delay)) (told-checked x r e)
+
+-- an entry that the table has, or none
+abbrev Looked-up : ℕ → Found → Type 0
+Looked-up count r = (r ≡ found.None) ⊎ ((i : ℕ) × (i < count) × (r ≡ found.Entry i))
+
+told-found : (x : m.Refusal) (f : model.Found) (count : ℕ) (r : Found) → Finds f 0 count → r ≡ found-of (unless x f) →
+    Told (λ n. r ≡ found.Refused n) (Unit {0}) (Looked-up count r) x
+unfolding unless
+told-found nothing f count r (finds-none q) e =
+    let g : r ≡ found.None = e ∙ ap found-of q in ((λ n h. absurd (let z : _≡_ {A = ℕ} 0 1 = cc in omega arith)), inl g)
+told-found nothing f count r (finds-one k q l i) e =
+    let g : r ≡ found.Entry k = e ∙ ap found-of q in ((λ n h. absurd (let z : _≡_ {A = ℕ} 0 1 = cc in omega arith)), inr (k, omega arith, g))
+told-found (refused n) f count r h e = (e, (λ k g. cc), tt)
+
+looking-up : (p : Plan) (table : List ℕ) (node tick heard values from : ℕ) (r : Found) →
+    r ≡ found-of (lookup (lines p) table node tick heard values from) →
+    Keeps-to (First-of (plan-sentences (lines p))) (λ n. r ≡ found.Refused n) (Unit {0}) (Looked-up (length (entries-of table)) r)
+unfolding lookup
+looking-up p table node tick heard values from r e =
+    keeps-list (λ n. r ≡ found.Refused n) (Unit {0}) (Looked-up (length (entries-of table)) r) (plan-sentences (lines p)) (plan-refusal (lines p)) (plan-first (lines p))
+    (told-found (plan-refusal (lines p)) _ (length (entries-of table)) r
+    (found-within (lines p) node tick heard values (ltb node (length (lines p .slots))) (entries-of table) from) e)
+
+pub demand-one : Demand-1
+demand-one =
+    record {
+      some-first = text-some;
+      one-first = text-one;
+      refusing = λ p r e. plan-first (lines p) ∙ sym e;
+      reading = reading;
+      writing = writing;
+      planning = planning;
+      listing-words = λ p delay passed table frames out out-now r e b. listing-bytes (words-listing (lines p) delay passed table frames) out out-now r e b;
+      listing-refusal = λ number out out-now r e b. listing-bytes (refused-line number) out out-now r e b;
+      printing = printing;
+      printed = refusal-printed;
+      checking = checking;
+      looking-up = looking-up;
+      row = λ table part r e. omega (arith, ap length e, part-within table r);
+      c-copying = c-copying;
+      c-planning = c-planning;
+      c-printing = c-printing;
+      c-checking = c-checking;
+      c-looking-up = c-looking-up;
+      c-row = c-row;
+    }

@@ -1,0 +1,216 @@
+-- Demand 2 as a theorem over the contracts of the functions that are called: see specs/Two.antt.
+-- Assumes nothing.
+use Prim.Native.Nat.{ℕ, _-_, _/_, _≤_}
+use mathlib.Core.Path.{_≡_, refl, sym, ap, subst, _∙_}
+use mathlib.Core.List.{List}
+use native.Mathlib.Omega.{arith}
+use lib.ListN.{length, take}
+use Rattle.lists.specs.Lists.{sum}
+use Rattle.lists.specs.Front.{front}
+use Rattle.lists.proofs.Front.{front-written}
+use Rattle.model.specs.Plan.{Lines}
+use Rattle.model.specs.Refusals.{Refusal, nothing, refused, or-else, plan-refusal}
+use Rattle.model.specs.Text.{print, Means, Reading, reads, after-refusal, Answers-text, of-form, wrote, not-written, unless-refused, fitting, write-plan, bytes-after}
+use Rattle.model.specs.Text as text
+use Rattle.model.specs.Table.{Answer, made, Result, result, entry-words, frame-words, answered, room-refusal, plan-answer, table-after, frames-after}
+use Rattle.model.specs.Listing.{printed, program-prints}
+use Rattle.laws.proofs.Good.{good}
+use Rattle.laws.proofs.Choice.{urgency-law, urgency-weights, number-weights, starts-highest, queue-ordered}
+use Rattle.grammar.proofs.Whole.{means-unique}
+use Rattle.grammar.proofs.Answers.{answers-unique}
+use Rattle.plan.specs.declared.Plan.{Plan}
+use Rattle.plan.specs.Memory.{lines}
+use Rattle.plan.specs.declared.refusals.Refusal.the-variants as refusal
+use Rattle.plan.specs.Refusing.{refusal-of}
+use Rattle.plan_reader.specs.declared.Read.{Read}
+use Rattle.plan_reader.specs.Answer.{reading-of}
+use Rattle.plan_writer.specs.declared.Written.{Written}
+use Rattle.plan_writer.specs.declared.Written.the-variants as written
+use Rattle.plan_writer.specs.Answer as writer
+use Rattle.plan_writer.proofs.Read.{of-read, written-is-read, read-is-written}
+use Rattle.planner.specs.declared.Made.{Made}
+use Rattle.planner.specs.declared.Planned.the-variants as planned
+use Rattle.planner.specs.Planner as planner
+use Rattle.planner.proofs.Sound.{made-fine}
+use Rattle.listing.specs.declared.Listed.the-variants as listed
+use Rattle.listing.specs.Answer as listing
+use Rattle.program.specs.Prints.{Prints}
+use Rattle.program.proofs.Printing.{Was-made, was-made}
+use Rattle.capi.specs.Copy.{copy, written-number, Copies}
+use Rattle.capi.specs.Listing.{Lists}
+use Rattle.capi.specs.Tables.{planned-of, table-number, table-bytes-after, frame-bytes-after, totals-after, Puts, Tables}
+use Rattle.demands.specs.Sentences.{Sentence, first, bytes-sentences, room-sentences, Keeps-to}
+use Rattle.demands.specs.Two.{Not-refused, Scheduled, Scheduled-bytes, plan-listing, Plans, Demand-2}
+use Rattle.demands.proofs.Firsts.{plan-first, bytes-first, room-first, plan-then, by-text}
+use Rattle.demands.proofs.Told.{lines-read}
+use Rattle.demands.proofs.OneC.{c-copying, c-planning}
+use Rattle.demands.proofs.One.{c-printing}
+
+-- what was read is lines that the text means
+module _ (text : List ℕ) (r : Read) (told : Answers-text text (reading-of r)) (read : r .refusal ≡ refusal.Nothing) where
+  reads-lines : reading-of r ≡ reads (lines (r .plan))
+  unfolding reading-of after-refusal
+  reads-lines = ap (λ x. after-refusal (refusal-of x) (lines (r .plan))) read
+
+  meant : Means text (lines (r .plan))
+  meant = of-read text (reading-of r) (lines (r .plan)) told reads-lines .1
+
+-- a reading of lines is theirs
+is-theirs : (r : Read) (p : Lines) → reading-of r ≡ reads p → (r .refusal ≡ refusal.Nothing) × (lines (r .plan) ≡ p)
+unfolding reading-of
+is-theirs r p e = let q = lines-read (r .refusal) (lines (r .plan)) p (sym e) in (q .0, sym (q .1))
+
+-- lines to which no sentence applies are read from their text
+pub reads-as : (text : List ℕ) (s : Reading) (q : Lines) → Answers-text text s → Means text q → length text ≤ 16384 → plan-refusal q ≡ nothing → s ≡ reads q
+unfolding after-refusal
+reads-as text s q a m l fine = answers-unique a (of-form q m l) ∙ ap (λ (x : Refusal). after-refusal x q) fine
+
+-- what the plan writer wrote
+written-back : (w : text.Written) (out out-now : List ℕ) (n : ℕ) → written.Wrote n ≡ writer.answer-of w → out-now ≡ bytes-after w out →
+    w ≡ wrote (take n out-now)
+unfolding bytes-after
+written-back (wrote bytes) out out-now n e b =
+    let q : n ≡ length bytes = cc in ap wrote (sym (ap (λ (k : ℕ). take k out-now) q ∙ ap (take (length bytes)) b ∙ front-written bytes out))
+written-back (not-written k) out out-now n e b = absurd (let z : _≡_ {A = ℕ} 0 1 = cc in omega arith)
+
+-- what was read is written as the text
+read-written : (text : List ℕ) (r : Read) → Answers-text text (reading-of r) → r .refusal ≡ refusal.Nothing → (out out-now : List ℕ) (w : Written) →
+    length text ≤ length out → w ≡ writer.answer-of (write-plan (lines (r .plan)) (length out)) → out-now ≡ bytes-after (write-plan (lines (r .plan)) (length out)) out →
+    (w ≡ written.Wrote (length text)) × (out-now ≡ front text out)
+unfolding bytes-after
+read-written text r a e out out-now w l q b =
+    let x = read-is-written text (lines (r .plan)) (length out) (subst (Answers-text text) (reads-lines text r a e) a) l in
+    (q ∙ ap writer.answer-of x, b ∙ ap (λ (z : _). bytes-after z out) x)
+
+-- where the answer is no refusal none applies
+pub none-applies : {Is-first : Refusal → Type 0} {Refused-with : ℕ → Type 0} {Unchanged Result : Type 0} → Keeps-to Is-first Refused-with Unchanged Result →
+    ((n : ℕ) → Refused-with n → ⊥) → (x : Refusal) → Is-first x → x ≡ nothing
+none-applies k not nothing h = refl
+none-applies k not (refused n) h = absurd (not n (k .first-refused n h))
+
+module _ (text out out-now : List ℕ) (answer : ℕ) where
+  copied-back : (p : Lines) → Means text p → plan-refusal p ≡ nothing → first (bytes-sentences (print p) (length out)) ≡ nothing →
+      answer ≡ written-number (write-plan p (length out)) → out-now ≡ bytes-after (write-plan p (length out)) out → (answer ≡ length text) × (out-now ≡ front text out)
+  unfolding write-plan or-else unless-refused written-number bytes-after
+  copied-back p m fine f e b =
+      let w : write-plan p (length out) ≡ wrote text = rw (fine, sym (bytes-first (print p) (length out)), f) (ap wrote (m .prints)) in
+      (e ∙ ap written-number w, b ∙ ap (λ (z : _). bytes-after z out) w)
+
+  c-copied : Copies text out out-now answer → Not-refused answer → (answer ≡ length text) × (out-now ≡ front text out)
+  unfolding copy
+  c-copied c not =
+      let x =
+      by-text text (λ p. bytes-sentences (print p) (length out))
+      (λ s x. x ≡ nothing → answer ≡ written-number (copy s (length out)) → out-now ≡ bytes-after (copy s (length out)) out → (answer ≡ length text) × (out-now ≡ front text out))
+      (c .reading) (c .of-text) (λ n l k f. absurd (let z : _≡_ {A = ℕ} 0 1 = cc in omega arith)) (λ p m fine f e b. copied-back p m fine f e b) in
+      x .2 (none-applies (c-copying text out out-now answer c) not (x .0) (x .1)) (c .number) (c .bytes)
+
+scheduled : (p : Plan) (table frames table-now frames-now : List ℕ) (m : Made) →
+    planned.Made m ≡ planner.answer-of (plan-answer (lines p) (length table) (length frames)) →
+    table-now ≡ table-after (plan-answer (lines p) (length table) (length frames)) table →
+    frames-now ≡ frames-after (plan-answer (lines p) (length table) (length frames)) frames →
+    Scheduled (lines p) table frames table-now frames-now m
+unfolding table-after frames-after
+scheduled p table frames table-now frames-now m e t f =
+    let a : Answer = plan-answer (lines p) (length table) (length frames) in
+    let w : Was-made a m = was-made a m e in
+    let same : w .result ≡ result (lines p) = made-fine (lines p) (length table) (length frames) (w .result) (w .is-made) .1 in
+    record {
+      start-table = t ∙ ap (λ (x : Answer). table-after x table) (w .is-made) ∙ ap (λ (q : Result). front (entry-words (q .entries)) table) same;
+      frame-list = f ∙ ap (λ (x : Answer). frames-after x frames) (w .is-made) ∙ ap (λ (q : Result). front (frame-words (q .frames)) frames) same;
+      words = w .words ∙ ap (λ (q : Result). length (entry-words (q .entries))) same;
+      framewords = w .framewords ∙ ap (λ (q : Result). length (frame-words (q .frames))) same;
+      worst-delay = w .delay ∙ ap (λ (q : Result). q .delay) same;
+      pass-overs = w .passed ∙ ap (λ (q : Result). sum (q .passed)) same;
+    }
+
+module _ (text table frames totals table-now frames-now totals-now : List ℕ) (answer : ℕ) where
+  abbrev Given : Type 0
+  Given = (p : Lines) × Means text p × Scheduled-bytes p table frames totals table-now frames-now totals-now answer
+
+  given : (p : Lines) → Means text p → plan-refusal p ≡ nothing → first (room-sentences (result p) (length table / 4) (length frames / 4)) ≡ nothing →
+      Puts (plan-answer p (length table / 4) (length frames / 4)) table frames totals table-now frames-now totals-now answer → Given
+  unfolding plan-answer or-else answered table-number table-bytes-after frame-bytes-after totals-after
+  given p m fine f c =
+      let w : plan-answer p (length table / 4) (length frames / 4) ≡ made (result p) =
+      rw (fine, sym (room-first (result p) (length table / 4) (length frames / 4)), f) in
+      let u : Puts (made (result p)) table frames totals table-now frames-now totals-now answer =
+      subst (λ (a : Answer). Puts a table frames totals table-now frames-now totals-now answer) w c in
+      (p, m, record { start-table = u .table-bytes; frame-list = u .frame-bytes; total-words = u .total-bytes; count = u .number })
+
+  c-scheduled : Tables text table frames totals table-now frames-now totals-now answer → Not-refused answer → Given
+  unfolding planned-of
+  c-scheduled c not =
+      let x =
+      by-text text (λ p. room-sentences (result p) (length table / 4) (length frames / 4))
+      (λ s x. x ≡ nothing → Puts (planned-of s (length table / 4) (length frames / 4)) table frames totals table-now frames-now totals-now answer → Given) (c .reading) (c .of-text)
+      (λ n l k f. absurd (let z : _≡_ {A = ℕ} 0 1 = cc in omega arith)) (λ p m fine f u. given p m fine f u) in
+      x .2 (none-applies (c-planning text table frames totals table-now frames-now totals-now answer c) not (x .0) (x .1)) (c .puts)
+
+-- neither of two refusals
+pub neither : (x y : Refusal) → or-else x y ≡ nothing → (x ≡ nothing) × (y ≡ nothing)
+unfolding or-else
+neither nothing y e = (refl, e)
+neither (refused n) y e = absurd (let z : _≡_ {A = ℕ} 0 1 = cc in omega arith)
+
+-- what is printed for a plan that is planned
+prints-plan : (text : List ℕ) (s : Reading) (p : Lines) → Answers-text text s → Plans text p → program-prints s ≡ plan-listing p
+unfolding program-prints printed plan-answer answered plan-listing
+prints-plan text s p a h =
+    let ss : List Sentence = room-sentences (result p) 15000 6000 in
+    let x : or-else (plan-refusal p) (room-refusal (result p) 15000 6000) ≡ nothing =
+    ap (or-else (plan-refusal p)) (sym (room-first (result p) 15000 6000)) ∙ sym (plan-then p ss) ∙ h .fine in
+    let q : s ≡ reads p = reads-as text s p a (h .means) (h .short) (neither (plan-refusal p) (room-refusal (result p) 15000 6000) x .0) in
+    ap program-prints q ∙ ap (λ (y : Refusal). printed p (answered y (result p))) x
+
+-- a text that was put into lent bytes
+module _ (bytes out out-now : List ℕ) where
+  was-put : (x : Refusal) (n : ℕ) → listed.Wrote n ≡ listing.answer-of (unless-refused x bytes) → out-now ≡ bytes-after (unless-refused x bytes) out →
+      (n ≡ length bytes) × (out-now ≡ front bytes out)
+  unfolding unless-refused bytes-after
+  was-put nothing n e b = (cc, b)
+  was-put (refused k) n e b = absurd (let z : _≡_ {A = ℕ} 0 1 = cc in omega arith)
+
+  was-numbered : (x : Refusal) (n : ℕ) → x ≡ nothing → n ≡ written-number (unless-refused x bytes) → out-now ≡ bytes-after (unless-refused x bytes) out →
+      (n ≡ length bytes) × (out-now ≡ front bytes out)
+  unfolding unless-refused bytes-after written-number
+  was-numbered nothing n h e b = (e, b)
+  was-numbered (refused k) n h e b = absurd (let z : _≡_ {A = ℕ} 0 1 = cc in omega arith)
+
+module _ (text out out-now : List ℕ) where
+  printed-plan : (n : ℕ) → Prints text out out-now (listed.Wrote n) → (p : Lines) → Plans text p → (n ≡ length (plan-listing p)) × (out-now ≡ front (plan-listing p) out)
+  unfolding listing.written-of
+  printed-plan n c p h =
+      subst (λ (bytes : List ℕ). (n ≡ length bytes) × (out-now ≡ front bytes out)) (prints-plan text (c .reading) p (c .of-text) h)
+      (was-put (program-prints (c .reading)) out out-now (fitting (length out) (program-prints (c .reading))) n (c .answer) (c .bytes))
+
+  c-printed : (answer : ℕ) → Lists text out out-now answer → Not-refused answer → (p : Lines) → Plans text p →
+      (answer ≡ length (plan-listing p)) × (out-now ≡ front (plan-listing p) out)
+  unfolding listing.written-of
+  c-printed answer c not p h =
+      let bytes : List ℕ = program-prints (c .reading) in
+      let none : fitting (length out) bytes ≡ nothing =
+      none-applies (c-printing text out out-now answer c) not (fitting (length out) bytes) (c .reading, c .of-text, bytes-first bytes (length out)) in
+      subst (λ (z : List ℕ). (answer ≡ length z) × (out-now ≡ front z out)) (prints-plan text (c .reading) p (c .of-text) h)
+      (was-numbered bytes out out-now (fitting (length out) bytes) answer none (c .number) (c .bytes))
+
+pub demand-two : Demand-2
+demand-two =
+    record {
+      meaning = λ text r a e. meant text r a e .prints;
+      only-meaning = λ text r a e q m. means-unique m (meant text r a e);
+      is-read = λ text r a q m l h. is-theirs r q (reads-as text (reading-of r) q a m l (sym (plan-first q) ∙ h));
+      one-text = λ text other r s a b e f same. sym (meant text r a e .prints) ∙ ap print same ∙ meant other s b f .prints;
+      written-read = λ p out out-now n e b r a.
+          is-theirs r (lines p) (written-is-read (lines p) (length out) (take n out-now) (reading-of r) (written-back (write-plan (lines p) (length out)) out out-now n e b) a);
+      read-written = read-written;
+      c-copied = c-copied;
+      scheduled = scheduled;
+      c-scheduled = c-scheduled;
+      printed = printed-plan;
+      c-printed = c-printed;
+      urgency = λ p h i l. urgency-law p (good p (sym (plan-first p) ∙ h)) i l;
+      by-weight = λ p. (urgency-weights p, number-weights p);
+      starts-first = starts-highest;
+      sends-first = λ p. queue-ordered p .0;
+    }
