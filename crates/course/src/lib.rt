@@ -1,6 +1,5 @@
 // The planning of one combination, from event to event: a process ends, a slot that carries something ends, or a slot begins whose node has a ready
 // item. specs/Course.antt says what an event does and when the next one is.
-use board::Board;
 use packing::pending;
 use packing::send;
 use readiness::may_run;
@@ -446,8 +445,10 @@ fn none() -> [u32; 64]
     [0u32; 64]
 }
 
-// The events from clock `start` on, one after another, until the clock is past the last at which there can be one.
-fn events<'a>(
+// Plans one combination from clock `start` on, where the arrays hold what was placed before: by row when it is over and its place, by node in how many slots
+// a ready item was not taken, and by condition and node (condition times 8 plus node) the same when the condition's value became known. `unmet` has 1 for
+// each edge whose `when` the combination does not meet. The answer is the last end of a process.
+pub fn course<'a>(
     processes: usize,
     tell: usize,
     conditions: usize,
@@ -479,7 +480,7 @@ fn events<'a>(
     passed: &mut [u32; 8],
     noted: &mut [u32; 48],
 ) -> u32
-    requires { ⌜ Fits (board-of processes tell conditions slots (now node) (now ticks) (now several) (now from) (now cue) (now remote) (now bytes) (now decider) (now intofirst) (now into) (now turnfirst) (now turn) (now queuefirst) (now queue) round (now offset) (now lasts) (now rooms)) × (1 ≤ start) × ((k : ℕ) → getD (now passed) k 0 ≤ start) × (length (now passed) ≡ 8) ⌝ }
+    requires { ⌜ Fits (board-of processes tell conditions slots (now node) (now ticks) (now several) (now from) (now cue) (now remote) (now bytes) (now decider) (now intofirst) (now into) (now turnfirst) (now turn) (now queuefirst) (now queue) round (now offset) (now lasts) (now rooms)) × (1 ≤ start) × ((k : ℕ) → getD (now passed) k 0 ≤ start) × (length (now passed) ≡ 8) × ((i : ℕ) → i < processes → getD (now comes) i 0 ≤ getD ends (getD (now node) i 0) 0) × ((r : ℕ) → processes ≤ r → getD (now comes) r 0 ≤ start) ⌝ }
     ensures { λ r. ⌜ Ended (board-of processes tell conditions slots (now (node .entry)) (now (ticks .entry)) (now (several .entry)) (now (from .entry)) (now (cue .entry)) (now (remote .entry)) (now (bytes .entry)) (now (decider .entry)) (now (intofirst .entry)) (now (into .entry)) (now (turnfirst .entry)) (now (turn .entry)) (now (queuefirst .entry)) (now (queue .entry)) round (now (offset .entry)) (now (lasts .entry)) (now (rooms .entry))) (now (unmet .entry)) (from-clock start flight ends (now (comes .entry)) (now (place .entry)) (now (passed .entry)) (now (noted .entry))) r (now (comes .exit)) (now (place .exit)) (now (passed .exit)) (now (noted .exit)) ⌝ }
 {
     let mut run = none();
@@ -569,55 +570,4 @@ fn events<'a>(
         );
     }
     latest(&busy, slots)
-}
-
-// Plans one combination from clock `start` on, where the arrays hold what was placed before: by row when it is over and its place, by node in how many slots
-// a ready item was not taken, and by condition and node (condition times 8 plus node) the same when the condition's value became known. `unmet` has 1 for
-// each edge whose `when` the combination does not meet. The answer is the last end of a process.
-pub fn course(
-    b: Board,
-    unmet: [u32; 128],
-    start: u32,
-    flight: u32,
-    ends: [u32; 8],
-    comes: &mut [u32; 198],
-    place: &mut [u32; 198],
-    passed: &mut [u32; 8],
-    noted: &mut [u32; 48],
-) -> u32
-    requires { ⌜ Fits b × (1 ≤ start) × ((k : ℕ) → getD (now passed) k 0 ≤ start) × (length (now passed) ≡ 8) ⌝ }
-    ensures { λ r. ⌜ Ended b unmet (from-clock start flight ends (now (comes .entry)) (now (place .entry)) (now (passed .entry)) (now (noted .entry))) r (now (comes .exit)) (now (place .exit)) (now (passed .exit)) (now (noted .exit)) ⌝ }
-{
-    events(
-        b.processes,
-        b.tell,
-        b.conditions,
-        b.slots,
-        &b.node,
-        &b.ticks,
-        &b.several,
-        &b.from,
-        &b.cue,
-        &b.remote,
-        &b.bytes,
-        &b.decider,
-        &b.intofirst,
-        &b.into,
-        &b.turnfirst,
-        &b.turn,
-        &b.queuefirst,
-        &b.queue,
-        b.round,
-        &b.offset,
-        &b.lasts,
-        &b.rooms,
-        &unmet,
-        start,
-        flight,
-        ends,
-        comes,
-        place,
-        passed,
-        noted,
-    )
 }

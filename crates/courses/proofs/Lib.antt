@@ -1,6 +1,7 @@
 -- Storing (rows and notes of a combination stored in its parts of the arrays), Adding (counts added to totals), Sources (the combination that another takes
 -- over from), Resuming (where planning stands as a value arrives in a plan), Single (the plan of one combination, from where a run of events leads), Taking
--- (what a combination takes over from its source), All (the combinations one after another: their logs, the worst delay, the pass-over counts).
+-- (what a combination takes over from its source, and its plan from there), All (the combinations one after another: their logs, the worst delay, the
+-- pass-over counts).
 pub mod Storing
 pub mod Adding
 pub mod Sources

@@ -2,16 +2,16 @@
 -- before it is the combination's plan.
 -- Assumes nothing.
 use mathlib.Core.Path.{_≡_, refl, sym, ap, _∙_, subst}
+use mathlib.Core.Logic.{_⊎_, inl, inr}
 use mathlib.Core.Bool.{Bool, true, false}
 use mathlib.Core.List.{List, [], _∷_, map, List·Memᴰ as In, List·Memᴰ·head as here}
 use Prim.Native.Nat.{ℕ, zero, suc, _+_, _-_, _*_, _^_, _≤_, _<_}
 use native.Mathlib.Omega.{arith}
 use lib.Dec.{eqb}
 use lib.ListN.{length, getD, replicate, length-append, length-map}
-use lib.Seq.{sets}
 use Rattle.lists.specs.Lists.{if_then_else_, keep, below, greatest}
 use Rattle.lists.proofs.Parts.{keep-short}
-use Rattle.model.specs.Plan.{Lines, Slot}
+use Rattle.model.specs.Plan.{Lines, Slot, unit}
 use Rattle.model.specs.Bus.{condition-row, beginning}
 use Rattle.model.specs.Planning.{View, passes-over, step, before, bound, planned}
 use Rattle.model.specs.Refusals.{nothing, plan-refusal}
@@ -26,7 +26,7 @@ use Rattle.board.specs.Board.{Boarded}
 use Rattle.course.specs.Course.{Moment, Ended, from-clock, Fits}
 use Rattle.course.proofs.Planned.{first-at, Plans, leads-planned, delay-planned}
 use Rattle.entries.specs.Logs.{numbered}
-use Rattle.courses.specs.Courses.{added, log-of, delay-of, passes-by, passes-of, Ready, Stored}
+use Rattle.courses.specs.Courses.{log-of, delay-of, passes-by, passes-of, Ready, Kept, Stored}
 use Rattle.courses.proofs.Adding.{added-at, added-long}
 use Rattle.courses.proofs.Sources.{width}
 
@@ -61,6 +61,22 @@ ready-start p c start ends rows places counts noted r = omega (arith, r .at-tick
 pub ready-long : (p : Lines) (c start : ℕ) (ends rows places counts noted : List ℕ) → Ready p c start ends rows places counts noted → length counts ≡ 8
 unfolding from-clock
 ready-long p c start ends rows places counts noted r = r .at-tick .passed-long
+
+-- no process ends after its node's last end, and no other row is over after the clock
+pub ready-ends : (p : Lines) (b : Board) (o : Boarded p b) (c start : ℕ) (ends rows places counts noted : List ℕ) → Ready p c start ends rows places counts noted → (i : ℕ) → i < b .processes →
+    getD rows i 0 ≤ getD ends (getD (b .node) i 0) 0
+unfolding from-clock unit
+ready-ends p b o c start ends rows places counts noted r i l =
+    let z : getD rows i 0 ≤ getD ends (unit p i) 0 = r .at-tick .ends .most i (omega (arith, o .processes-count)) in
+    subst (λ (n : ℕ). getD rows i 0 ≤ getD ends n 0) (sym (o .nodes i)) z
+
+pub ready-arrived : (p : Lines) (b : Board) (o : Boarded p b) (c start : ℕ) (ends rows places counts noted : List ℕ) → Ready p c start ends rows places counts noted → (r : ℕ) → b .processes ≤ r → getD rows r 0 ≤ start
+unfolding from-clock
+ready-arrived p b o c start ends rows places counts noted s r l = at (s .at-tick .flying r (omega (arith, o .processes-count)))
+  where
+    at : (getD rows r 0 ≤ suc (s .tick)) ⊎ (getD rows r 0 ≡ 0) → getD rows r 0 ≤ start
+    at (inl z) = omega (arith, z, s .at-tick .clock)
+    at (inr z) = omega (arith, z)
 
 -- from the beginning
 pub ready-first : (p : Lines) (c : ℕ) (ends rows places counts noted : List ℕ) → ends ≡ replicate 8 0 → rows ≡ replicate 198 0 → places ≡ replicate 198 0 → counts ≡ replicate 8 0 → noted ≡ replicate 48 0 →
@@ -154,11 +170,11 @@ module _ (p : Lines) (passes : plan-refusal p ≡ nothing) where
         }
 
     -- its rows and notes stored and its counts added
-    pub stored-of : (c latest : ℕ) (rows places counts noted : List ℕ) → Course p c latest rows places counts noted → (comes place notes passed : List ℕ) → length passed ≡ 8 →
-        {comes-after place-after notes-between notes-after passed-after : List ℕ} → comes-after ≡ sets comes (c * 198) rows → place-after ≡ sets place (c * 198) places →
-        notes-between ≡ sets notes (c * 56) noted → notes-after ≡ sets notes-between (c * 56 + 48) counts → passed-after ≡ added counts passed (b .slots) →
+    pub stored-of : (c latest : ℕ) (rows places counts noted : List ℕ) → Course p c latest rows places counts noted → (clock : ℕ) (comes place since notes passed : List ℕ) → length passed ≡ 8 →
+        {comes-after place-after since-after notes-after passed-after : List ℕ} →
+        Kept c clock (b .slots) rows places counts noted comes place since notes passed comes-after place-after since-after notes-after passed-after →
         Stored p c latest comes place notes passed comes-after place-after notes-after passed-after
-    stored-of c latest rows places counts noted k comes place notes passed long r s u v t =
+    stored-of c latest rows places counts noted k clock comes place since notes passed long s =
         let n : b .slots ≡ length (p .slots) = o .slots-count in
         record {
           rows = rows;
@@ -170,13 +186,13 @@ module _ (p : Lines) (passes : plan-refusal p ≡ nothing) where
           noted-long = k .noted-long;
           counts-own = k .counted;
           counts-long = k .counts-long;
-          rows-stored = r;
-          places-stored = s;
-          notes-stored = v ∙ ap (λ (xs : List ℕ). sets xs (c * 56 + 48) counts) u;
+          rows-stored = s .rows-stored;
+          places-stored = s .places-stored;
+          notes-stored = s .notes-stored;
           delay = k .delay;
           counted = λ m l.
-              ap (λ (xs : List ℕ). getD xs m 0) t
+              ap (λ (xs : List ℕ). getD xs m 0) (s .counts-added)
               ∙ added-at counts passed (b .slots) m (omega arith) (omega (arith, o .few-slots))
               ∙ ap (λ (x : ℕ). getD passed m 0 + x) (k .counted m l);
-          passed-long = ap length t ∙ added-long counts passed (b .slots) ∙ long;
+          passed-long = ap length (s .counts-added) ∙ added-long counts passed (b .slots) ∙ long;
         }

@@ -5,25 +5,13 @@ use mathlib.Core.Path.{_≡_, refl, sym, ap, _∙_}
 use mathlib.Core.List.{List, [], _∷_}
 use Prim.Native.Nat.{ℕ, zero, suc, _+_, _*_, _≤_, _<_}
 use native.Mathlib.Omega.{arith}
-use lib.ListN.{length, getD, set, take, drop, drop-of-length-le, length-set}
+use lib.ListN.{length, getD, set, take, drop, length-set}
 use lib.Seq.{sets, sets-eq, take-set-le, length-take-le, length-slice, length-sets, ext-getD, getD-take, getD-drop, getD-set-same, getD-set-other}
 use mathlib.Core.List.{append-assoc}
 use Rattle.lists.specs.Lists.{fill}
 use Rattle.lists.proofs.Fill.{fill-at, fill-length}
-use Rattle.lists.proofs.Parts.{drop-one, middle}
+use Rattle.lists.proofs.Parts.{middle}
 use Rattle.entries.specs.Logs.{block}
-
--- One turn: what is left to store gives the whole.
-pub rows-next : (rows : List ℕ) (at r : ℕ) (all : List ℕ) {whole : List ℕ} → r < length rows → sets all (at + r) (drop r rows) ≡ whole →
-    sets (set all (at + r) (getD rows r 0)) (at + (r + 1)) (drop (r + 1) rows) ≡ whole
-rows-next rows at r all l e =
-    let q : at + (r + 1) ≡ suc (at + r) = omega arith in
-    ap (λ (k : ℕ). sets (set all (at + r) (getD rows r 0)) k (drop (r + 1) rows)) q
-    ∙ ap (sets all (at + r)) (sym (drop-one rows r l))
-    ∙ e
-
-pub rows-end : (rows : List ℕ) (at r : ℕ) (all : List ℕ) {whole : List ℕ} → length rows ≤ r → sets all (at + r) (drop r rows) ≡ whole → all ≡ whole
-rows-end rows at r all l e = ap (sets all (at + r)) (sym (drop-of-length-le rows {i = r} l)) ∙ e
 
 -- what stands before the place stored at is as it was
 take-sets : (n : ℕ) (all : List ℕ) (i : ℕ) (vs : List ℕ) → n ≤ i → take n (sets all i vs) ≡ take n all

@@ -1,5 +1,5 @@
 -- A combination takes over from its source: the rows cut at the clock, the ends among them and the counts noted say where its planning stands there, and
--- what it has before that clock makes the same entries as in the source.
+-- what it has before that clock makes the same entries as in the source. Planned on from there and stored, it is one combination more (`one-of`).
 -- Assumes nothing.
 use mathlib.Core.Path.{_≡_, refl, sym, ap, _∙_, subst, subst₂}
 use mathlib.Core.Logic.{_⊎_, inl, inr}
@@ -13,9 +13,9 @@ use borrow.Author.Tests.{eq-eqb, ne-eqb, leb-true, leb-false}
 use Rattle.lists.specs.Lists.{if_then_else_, keep}
 use Rattle.lists.proofs.Tests.{two}
 use Rattle.lists.proofs.Members.{keep-in}
-use Rattle.lists.proofs.Fill.{fill-at, fill-past, fill-length}
+use Rattle.lists.proofs.Fill.{fill-at, fill-past, fill-length, zeros-at}
 use Rattle.model.specs.Plan.{Lines}
-use Rattle.model.specs.Bus.{condition-row}
+use Rattle.model.specs.Bus.{rows as all-rows, condition-row}
 use Rattle.model.specs.Log.{Placed, Log}
 use Rattle.model.specs.Planning.{State, before, planned}
 use Rattle.model.specs.Refusals.{nothing, plan-refusal}
@@ -25,17 +25,18 @@ use Rattle.laws.proofs.Bound.{bound-small}
 use Rattle.laws.proofs.Sharing.{in-plan, plan-in, Shared, made-same}
 use Rattle.readiness.specs.Holding.{Row, absent, stands, Held}
 use Rattle.board.specs.declared.Board.{Board}
+use Rattle.board.specs.Layout.{unmet-by}
 use Rattle.board.specs.Board.{Boarded}
-use Rattle.course.specs.Course.{from-clock}
+use Rattle.course.specs.Course.{Ended, from-clock}
 use Rattle.course.proofs.Standing.{At}
 use Rattle.entries.specs.Logs.{block, numbered, plan-of}
 use Rattle.courses.specs.declared.Source.{Source}
-use Rattle.courses.specs.Resume.{no-value, arrival, cut, ends-below, Sourced, counts-from, notes-from, counts-at}
-use Rattle.courses.specs.Courses.{log-of, Ready, Earlier, Taken-over}
+use Rattle.courses.specs.Resume.{no-value, arrival, cut, ends-below, Sourced, counts-from, notes-from, counts-at, Resumed, begins, goes-on}
+use Rattle.courses.specs.Courses.{log-of, Ready, Earlier, Kept, Taken-over, One}
 use Rattle.courses.proofs.Storing.{block-at}
 use Rattle.courses.proofs.Sources.{arrival-never, arrival-at, width, from-less, from-within, elsewhere}
 use Rattle.courses.proofs.Resuming.{by-bound, resumes-until, resumes-never}
-use Rattle.courses.proofs.Single.{passes-few, passes-late}
+use Rattle.courses.proofs.Single.{ready-first, Course, passes-few, passes-late, course-of, stored-of}
 
 -- the counts of a source stand among the notes
 pub counts-within : (s : Source) → s .from < 64 → s .condition < 6 → counts-at s ≤ 3576
@@ -63,7 +64,7 @@ module _ (p : Lines) (passes : plan-refusal p ≡ nothing) (b : Board) (o : Boar
   few-slots : length (p .slots) ≤ 8
   few-slots = omega (arith, o .slots-count, o .few-slots)
 
-  pub source-less : s .from < c
+  source-less : s .from < c
   source-less = from-less p few c l comes (b .tell) s x
 
   source-within : s .from < 2 ^ length (p .conditions)
@@ -178,15 +179,15 @@ module _ (p : Lines) (passes : plan-refusal p ≡ nothing) (b : Board) (o : Boar
                 (λ n m. omega (arith, own n m ∙ noting j (x .condition-in) (omega (arith, q)) n m, passes-late p passes n d (value - 1), q, k));
           }
 
-  pub next-ready : Ready p c (s .clock) (ends-below (b .node) (cut (block comes (s .from)) (b .span) (s .clock)) (b .processes)) (cut (block comes (s .from)) (b .span) (s .clock)) (block place (s .from))
+  next-ready : Ready p c (s .clock) (ends-below (b .node) (cut (block comes (s .from)) (b .span) (s .clock)) (b .processes)) (cut (block comes (s .from)) (b .span) (s .clock)) (block place (s .from))
       (counts-from notes (counts-at s) (b .slots)) (notes-from notes (s .from * 56))
   next-ready = record { tick = taken .tick; at-tick = taken .stands-there }
 
-  pub next-few : (n : ℕ) → getD (counts-from notes (counts-at s) (b .slots)) n 0 ≤ s .clock
+  next-few : (n : ℕ) → getD (counts-from notes (counts-at s) (b .slots)) n 0 ≤ s .clock
   next-few = taken .few-counts
 
   -- a row that starts before the clock makes the same entry in the source
-  pub next-taken : (rows-after places-after : List ℕ) → Held p (log-of p c) rows-after places-after → Taken-over p c rows-after (b .span) (s .clock)
+  next-taken : (rows-after places-after : List ℕ) → Held p (log-of p c) rows-after places-after → Taken-over p c rows-after (b .span) (s .clock)
   next-taken rows-after places-after h r m some early = at (h .row r)
     where
       at : Row p (log-of p c) r (getD rows-after r 0) (getD places-after r 0) → (f : ℕ) × (f < c) × (made-entries p r (plan-of p c) ≡ made-entries p r (plan-of p f))
@@ -204,13 +205,56 @@ module _ (p : Lines) (passes : plan-refusal p ≡ nothing) (b : Board) (o : Boar
           )
 
   -- the same of arrays that were filled so
-  pub next-ready-of : (at : ℕ) (ends rows-then places-then counts-then noted-then : List ℕ) → at ≡ counts-at s → rows-then ≡ cut (block comes (s .from)) (b .span) (s .clock) → places-then ≡ block place (s .from) →
-      ends ≡ ends-below (b .node) rows-then (b .processes) → counts-then ≡ counts-from notes at (b .slots) → noted-then ≡ notes-from notes (s .from * 56) →
+  next-ready-of : (ends rows-then places-then counts-then noted-then : List ℕ) → rows-then ≡ cut (block comes (s .from)) (b .span) (s .clock) → places-then ≡ block place (s .from) →
+      ends ≡ ends-below (b .node) rows-then (b .processes) → counts-then ≡ counts-from notes (counts-at s) (b .slots) → noted-then ≡ notes-from notes (s .from * 56) →
       Ready p c (s .clock) ends rows-then places-then counts-then noted-then
-  next-ready-of at ends rows-then places-then counts-then noted-then q r v w y z =
+  next-ready-of ends rows-then places-then counts-then noted-then r v w y z =
       let ends-is : ends ≡ ends-below (b .node) (cut (block comes d) (b .span) (s .clock)) (b .processes) = w ∙ ap (λ (xs : List ℕ). ends-below (b .node) xs (b .processes)) r in
-      let counts-is : counts-then ≡ counts-from notes (counts-at s) (b .slots) = y ∙ ap (λ (k : ℕ). counts-from notes k (b .slots)) q in
-      rw (ends-is, r, v, counts-is, z) next-ready
+      rw (ends-is, r, v, y, z) next-ready
 
-  pub next-few-of : (at : ℕ) (counts-then : List ℕ) → at ≡ counts-at s → counts-then ≡ counts-from notes at (b .slots) → (n : ℕ) → getD counts-then n 0 ≤ s .clock
-  next-few-of at counts-then q y n = rw (y, q) (next-few n)
+-- A combination is planned from what it takes over, and stored.
+module _ (p : Lines) (passes : plan-refusal p ≡ nothing) (b : Board) (o : Boarded p b) (c : ℕ) (l : c < 2 ^ length (p .conditions)) (comes place notes : List ℕ) (e : Earlier p c comes place notes)
+    (clock : ℕ) (rows places ends counts noted : List ℕ)
+    (given : Resumed (b .processes) (b .tell) (b .conditions) (b .slots) c clock (b .node) (b .span) comes place notes rows places ends counts noted) where
+  abbrev Resumes : Type 0
+  Resumes = Resumed (b .processes) (b .tell) (b .conditions) (b .slots) c clock (b .node) (b .span) comes place notes rows places ends counts noted
+
+  pub resumed-ready : Ready p c clock ends rows places counts noted
+  resumed-ready = at given
+    where
+      at : Resumes → Ready p c clock ends rows places counts noted
+      at (begins z u r q f n m) = subst (λ (x : ℕ). Ready p c x ends rows places counts noted) (sym u) (ready-first p c ends rows places counts noted f r q n m)
+      at (goes-on t) =
+          subst (λ (x : ℕ). Ready p c x ends rows places counts noted) (sym (t .until))
+          (next-ready-of p passes b o c l comes place notes e (t .source) (t .sourced) ends rows places counts noted (t .rows-cut) (t .places-whole) (t .ends-last) (t .counts-then) (t .notes-then))
+
+  pub resumed-few : (n : ℕ) → getD counts n 0 ≤ clock
+  resumed-few n = at given
+    where
+      at : Resumes → getD counts n 0 ≤ clock
+      at (begins z u r q f k m) = omega (arith, ap (λ (xs : List ℕ). getD xs n 0) k, zeros-at 8 n)
+      at (goes-on t) = omega (arith, t .until, ap (λ (xs : List ℕ). getD xs n 0) (t .counts-then), next-few p passes b o c l comes place notes e (t .source) (t .sourced) n)
+
+  resumed-taken : (rows-after places-after : List ℕ) → Held p (log-of p c) rows-after places-after → Taken-over p c rows-after (b .span) clock
+  resumed-taken rows-after places-after h = at given
+    where
+      -- nothing starts before clock 1
+      none : (r : ℕ) → r < all-rows p → Row p (log-of p c) r (getD rows-after r 0) (getD places-after r 0) → (getD rows-after r 0 ≡ 0 → ⊥) → 1 ≤ getD rows-after r 0 - getD (b .span) r 0
+      none r m (absent n z) some = absurd (some z)
+      none r m (stands u n z) some = omega (arith, z, o .spans r m)
+
+      at : Resumes → Taken-over p c rows-after (b .span) clock
+      at (begins z u w q f k m) = λ r y some early. absurd (omega (arith, u, early, none r y (h .row r) some))
+      at (goes-on t) =
+          subst (λ (x : ℕ). Taken-over p c rows-after (b .span) x) (sym (t .until)) (next-taken p passes b o c l comes place notes e (t .source) (t .sourced) rows-after places-after h)
+
+  pub one-of : (unmet : List ℕ) → unmet ≡ unmet-by (b .kind) (b .condition) (b .edges) c → {latest : ℕ} {rows-after places-after counts-after noted-after : List ℕ} →
+      Ended b unmet (from-clock clock 0 ends rows places counts noted) latest rows-after places-after counts-after noted-after → (since passed : List ℕ) → length passed ≡ 8 →
+      {comes-after place-after since-after notes-after passed-after : List ℕ} →
+      Kept c clock (b .slots) rows-after places-after counts-after noted-after comes place since notes passed comes-after place-after since-after notes-after passed-after →
+      One p (b .span) c latest comes place since notes passed comes-after place-after since-after notes-after passed-after
+  one-of unmet q {latest} {rows-after} {places-after} {counts-after} {noted-after} f since passed long s =
+      let k : Course p c latest rows-after places-after counts-after noted-after =
+      course-of p passes b o c l unmet q clock ends rows places counts noted resumed-ready latest rows-after places-after counts-after noted-after f in
+      let x = stored-of p passes b o c latest rows-after places-after counts-after noted-after k clock comes place since notes passed long s in
+      record { stored = x; clock = clock; since-stored = s .since-stored; taken-over = resumed-taken (x .rows) (x .places) (x .held) }

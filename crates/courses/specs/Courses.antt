@@ -57,6 +57,15 @@ pub record Earlier (p : Lines) (n : ℕ) (comes place notes : List ℕ) : Type 0
       getD notes (c * 56 + (k * 8 + m)) 0 ≡ passes-by p m c (getD (block comes c) (condition-row p k) 0 - 1)
   pub counts : (c : ℕ) → c < n → (m : ℕ) → m < length (p .slots) → getD notes (c * 56 + 48 + m) 0 ≡ passes-of p m c
 
+-- Combination c's rows and what was noted stand in its parts of the arrays, as does the clock up to which it is taken over, and its counts are added to
+-- those of the first nodes.
+pub record Kept (c clock slots : ℕ) (rows places counts noted comes place since notes passed comes-after place-after since-after notes-after passed-after : List ℕ) : Type 0 where
+  pub rows-stored : comes-after ≡ sets comes (c * 198) rows
+  pub places-stored : place-after ≡ sets place (c * 198) places
+  pub since-stored : since-after ≡ set since c clock
+  pub notes-stored : notes-after ≡ sets (sets notes (c * 56) noted) (c * 56 + 48) counts
+  pub counts-added : passed-after ≡ added counts passed slots
+
 -- Combination c is planned: its rows and what was noted are stored, its counts are added. `latest` is the clock at which its last process ends, or 0.
 pub record Stored (p : Lines) (c latest : ℕ) (comes place notes passed comes-after place-after notes-after passed-after : List ℕ) : Type 0 where
   pub rows : List ℕ

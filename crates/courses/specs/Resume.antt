@@ -8,6 +8,7 @@ use lib.Dec.{eqb, leb, ltb}
 use lib.ListN.{getD, set, replicate}
 use Rattle.lists.specs.Lists.{if_then_else_, fill}
 use Rattle.model.specs.Listing.{bit}
+use Rattle.entries.specs.Logs.{block}
 use Rattle.courses.specs.declared.Source.{Source}
 
 -- a row that is over at clock x and lasts so many ticks, where it was placed before clock u, 0 otherwise
@@ -58,3 +59,21 @@ notes-from notes at = fill 48 (λ i. getD notes (at + i) 0) 48
 -- where the counts of a source stand
 unfoldable pub counts-at : Source → ℕ
 counts-at s = if eqb (s .clock) no-value then s .from * 56 + 48 else s .from * 56 + s .condition * 8
+
+-- What combination c takes over from its source: what is placed there before a clock, and what was noted then.
+pub record Taken-from (processes tell conditions slots c clock : ℕ) (node lasting comes place notes rows places ends counts noted : List ℕ) : Type 0 where
+  pub source : Source
+  pub sourced : Sourced comes tell conditions c source
+  pub until : clock ≡ source .clock
+  pub rows-cut : rows ≡ cut (block comes (source .from)) lasting (source .clock)
+  pub places-whole : places ≡ block place (source .from)
+  pub ends-last : ends ≡ ends-below node rows processes
+  pub counts-then : counts ≡ counts-from notes (counts-at source) slots
+  pub notes-then : noted ≡ notes-from notes (source .from * 56)
+
+-- Combination 0 begins from nothing at clock 1, each other one takes over from its source.
+pub data Resumed (processes tell conditions slots c clock : ℕ) (node lasting comes place notes rows places ends counts noted : List ℕ) : Type 0 where
+  begins : c ≡ 0 → clock ≡ 1 → rows ≡ replicate 198 0 → places ≡ replicate 198 0 → ends ≡ replicate 8 0 → counts ≡ replicate 8 0 → noted ≡ replicate 48 0 →
+      Resumed processes tell conditions slots c clock node lasting comes place notes rows places ends counts noted
+  goes-on : Taken-from processes tell conditions slots c clock node lasting comes place notes rows places ends counts noted →
+      Resumed processes tell conditions slots c clock node lasting comes place notes rows places ends counts noted

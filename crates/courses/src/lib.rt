@@ -11,8 +11,8 @@ ghost use Rattle.model.specs.Plan.{Lines};
 ghost use Rattle.model.specs.Refusals.{nothing, plan-refusal};
 ghost use Rattle.board.specs.Board.{Boarded};
 ghost use Rattle.entries.specs.Logs.{block};
-ghost use Rattle.courses.specs.Resume.{cut-one, cut, ends-below, arrival, later-by, Sourced, counts-from, notes-from, counts-at};
-ghost use Rattle.courses.specs.Courses.{Laid-out, added, Ready, Earlier, Stored, One, Planned-all};
+ghost use Rattle.courses.specs.Resume.{cut-one, cut, ends-below, arrival, later-by, Sourced, counts-from, notes-from, counts-at, Resumed};
+ghost use Rattle.courses.specs.Courses.{Laid-out, added, Kept, Planned-all};
 
 // The worst delay, and by node in how many slots of all combinations a ready item was not taken.
 pub struct Totals {
@@ -293,134 +293,66 @@ fn add_counts<'a>(counts: &'a [u32; 8], slots: usize, totals: &mut [u32; 8])
     }
 }
 
-// Plans combination c from a clock on, where the arrays hold what is placed before it; stores its rows and what was noted, and adds its counts to those of
-// the combinations before. The answer is the clock at which its last process ends, or 0.
-fn plan_on(
-    b: Board,
+// What combination c takes over: the answer is the clock from which it is planned, and the arrays, which are zeros before, hold what is placed before that
+// clock, by node the last end of a process, and what was counted and noted by then. Combination 0 begins from nothing at clock 1.
+fn resume<'a>(
     c: usize,
-    start: u32,
-    ends: [u32; 8],
-    before: [u32; 198],
-    at: [u32; 198],
-    counted: [u32; 8],
-    known: [u32; 48],
-    comes: &mut [u32; 12672],
-    place: &mut [u32; 12672],
-    notes: &mut [u32; 3584],
-    passed: &mut [u32; 8],
+    processes: usize,
+    tell: usize,
+    conditions: usize,
+    slots: usize,
+    node: &'a [u32; 64],
+    span: &'a [u32; 198],
+    comes: &'a [u32; 12672],
+    place: &'a [u32; 12672],
+    notes: &'a [u32; 3584],
+    rows: &mut [u32; 198],
+    places: &mut [u32; 198],
+    ends: &mut [u32; 8],
+    counts: &mut [u32; 8],
+    noted: &mut [u32; 48],
 ) -> u32
-    requires { ⌜ Laid-out b ⌝ ∗ ⌜ (c < 64) × (c < 2 ^ b .conditions) × (length (now passed) ≡ 8) × ((n : ℕ) → n < b .slots → getD (now passed) n 0 ≤ 198 * c) × ((k : ℕ) → getD counted k 0 ≤ start) × ((p : Lines) → plan-refusal p ≡ nothing → Boarded p b → Ready p c start ends before at counted known) ⌝ }
-    ensures { λ r. ⌜ ((p : Lines) → plan-refusal p ≡ nothing → Boarded p b → Stored p c r (now (comes .entry)) (now (place .entry)) (now (notes .entry)) (now (passed .entry)) (now (comes .exit)) (now (place .exit)) (now (notes .exit)) (now (passed .exit))) ⌝ }
-{
-    let number = c as u32;
-    let lacks = unmet(&b.kind, &b.condition, b.edges, number);
-    let mut rows = before;
-    let mut places = at;
-    let mut counts = counted;
-    let mut noted = known;
-    let latest = course(
-        b,
-        lacks,
-        start,
-        0,
-        ends,
-        &mut rows,
-        &mut places,
-        &mut counts,
-        &mut noted,
-    );
-    keep_rows(&rows, c, comes);
-    keep_rows(&places, c, place);
-    keep_noted(&noted, c * 56, notes);
-    keep_counts(&counts, c * 56 + 48, notes);
-    add_counts(&counts, b.slots, passed);
-    latest
-}
-
-// Plans combination 0, from the beginning.
-fn first_one(
-    b: Board,
-    comes: &mut [u32; 12672],
-    place: &mut [u32; 12672],
-    since: &mut [u32; 64],
-    notes: &mut [u32; 3584],
-    passed: &mut [u32; 8],
-) -> u32
-    requires { ⌜ Laid-out b ⌝ ∗ ⌜ (length (now passed) ≡ 8) × ((n : ℕ) → n < b .slots → getD (now passed) n 0 ≤ 198 * 0) ⌝ }
-    ensures { λ r. ⌜ ((p : Lines) → plan-refusal p ≡ nothing → Boarded p b → One p (b .span) 0 r (now (comes .entry)) (now (place .entry)) (now (since .entry)) (now (notes .entry)) (now (passed .entry)) (now (comes .exit)) (now (place .exit)) (now (since .exit)) (now (notes .exit)) (now (passed .exit))) ⌝ }
-{
-    since[0] = 0;
-    plan_on(
-        b,
-        0,
-        1,
-        no_counts(),
-        no_rows(),
-        no_rows(),
-        no_counts(),
-        none_noted(),
-        comes,
-        place,
-        notes,
-        passed,
-    )
-}
-
-// Plans combination c, which takes over what it shares with an earlier one.
-fn next_one(
-    b: Board,
-    c: usize,
-    comes: &mut [u32; 12672],
-    place: &mut [u32; 12672],
-    since: &mut [u32; 64],
-    notes: &mut [u32; 3584],
-    passed: &mut [u32; 8],
-) -> u32
-    requires { ⌜ Laid-out b ⌝ ∗ ⌜ (0 < c) × (c < 64) × (c < 2 ^ b .conditions) × (length (now place) ≡ 12672) × (length (now passed) ≡ 8) × ((n : ℕ) → n < b .slots → getD (now passed) n 0 ≤ 198 * c) × ((p : Lines) → plan-refusal p ≡ nothing → Boarded p b → Earlier p c (now comes) (now place) (now notes)) ⌝ }
-    ensures { λ r. ⌜ ((p : Lines) → plan-refusal p ≡ nothing → Boarded p b → One p (b .span) c r (now (comes .entry)) (now (place .entry)) (now (since .entry)) (now (notes .entry)) (now (passed .entry)) (now (comes .exit)) (now (place .exit)) (now (since .exit)) (now (notes .exit)) (now (passed .exit))) ⌝ }
-{
-    let s = source_of(comes, b.tell, b.conditions, c);
-    let from = s.from;
-    let clock = s.clock;
-    since[c] = clock;
-    let rows = cut_rows(comes, from, &b.span, clock);
-    let places = rows_of(place, from);
-    let ends = last_ends(&b.node, &rows, b.processes);
-    let counts = counts_of(notes, place_of_counts(s), b.slots);
-    let noted = notes_of(notes, from * 56);
-    plan_on(
-        b,
-        c,
-        clock,
-        ends,
-        rows,
-        places,
-        counts,
-        noted,
-        comes,
-        place,
-        notes,
-        passed,
-    )
-}
-
-// Plans combination c.
-fn one(
-    b: Board,
-    c: usize,
-    comes: &mut [u32; 12672],
-    place: &mut [u32; 12672],
-    since: &mut [u32; 64],
-    notes: &mut [u32; 3584],
-    passed: &mut [u32; 8],
-) -> u32
-    requires { ⌜ Laid-out b ⌝ ∗ ⌜ (c < 64) × (c < 2 ^ b .conditions) × (length (now place) ≡ 12672) × (length (now passed) ≡ 8) × ((n : ℕ) → n < b .slots → getD (now passed) n 0 ≤ 198 * c) × ((p : Lines) → plan-refusal p ≡ nothing → Boarded p b → Earlier p c (now comes) (now place) (now notes)) ⌝ }
-    ensures { λ r. ⌜ ((p : Lines) → plan-refusal p ≡ nothing → Boarded p b → One p (b .span) c r (now (comes .entry)) (now (place .entry)) (now (since .entry)) (now (notes .entry)) (now (passed .entry)) (now (comes .exit)) (now (place .exit)) (now (since .exit)) (now (notes .exit)) (now (passed .exit))) ⌝ }
+    requires { ⌜ (c < 64) × (c < 2 ^ conditions) × (processes ≤ 64) × (tell ≤ 192) × (conditions ≤ 6) × (slots ≤ 8) × ((i : ℕ) → getD (now node) i 0 < 8) × (length (now place) ≡ 12672) ⌝ ∗ ⌜ (now rows ≡ replicate 198 0) × (now places ≡ replicate 198 0) × (now ends ≡ replicate 8 0) × (now counts ≡ replicate 8 0) × (now noted ≡ replicate 48 0) ⌝ }
+    ensures { λ r. ⌜ Resumed processes tell conditions slots c r (now (node .entry)) (now (span .entry)) (now (comes .entry)) (now (place .entry)) (now (notes .entry)) (now (rows .exit)) (now (places .exit)) (now (ends .exit)) (now (counts .exit)) (now (noted .exit)) ⌝ }
 {
     if c == 0 {
-        return first_one(b, comes, place, since, notes, passed);
+        return 1;
     }
-    next_one(b, c, comes, place, since, notes, passed)
+    let s = source_of(comes, tell, conditions, c);
+    let from = s.from;
+    let clock = s.clock;
+    *rows = cut_rows(comes, from, span, clock);
+    *places = rows_of(place, from);
+    *ends = last_ends(node, rows, processes);
+    *counts = counts_of(notes, place_of_counts(s), slots);
+    *noted = notes_of(notes, from * 56);
+    clock
+}
+
+// Stores the plan of combination c, its rows, up to which clock it is taken over and what was noted, and adds its counts to those of the combinations before.
+fn store<'a>(
+    c: usize,
+    clock: u32,
+    slots: usize,
+    rows: &'a [u32; 198],
+    places: &'a [u32; 198],
+    counts: &'a [u32; 8],
+    noted: &'a [u32; 48],
+    comes: &mut [u32; 12672],
+    place: &mut [u32; 12672],
+    since: &mut [u32; 64],
+    notes: &mut [u32; 3584],
+    passed: &mut [u32; 8],
+)
+    requires { ⌜ (c < 64) × (slots ≤ 8) × (length (now rows) ≡ 198) × (length (now places) ≡ 198) × (length (now counts) ≡ 8) × (length (now noted) ≡ 48) × ((n : ℕ) → n < slots → getD (now passed) n 0 + getD (now counts) n 0 < 4294967296) ⌝ }
+    ensures { λ _. ⌜ Kept c clock slots (now (rows .entry)) (now (places .entry)) (now (counts .entry)) (now (noted .entry)) (now (comes .entry)) (now (place .entry)) (now (since .entry)) (now (notes .entry)) (now (passed .entry)) (now (comes .exit)) (now (place .exit)) (now (since .exit)) (now (notes .exit)) (now (passed .exit)) ⌝ }
+{
+    since[c] = clock;
+    keep_rows(rows, c, comes);
+    keep_rows(places, c, place);
+    keep_noted(noted, c * 56, notes);
+    keep_counts(counts, c * 56 + 48, notes);
+    add_counts(counts, slots, passed);
 }
 
 // Plans every combination: `comes` and `place` hold the log of combination c from place c * 198 on. Its rows that start before clock `since[c]` are taken
@@ -440,10 +372,77 @@ pub fn all_courses(
     let mut latest: u32 = 0;
     let mut c: usize = 0;
     while c < n {
-        latest = greater(
-            latest,
-            one(b, c, comes, place, since, &mut notes, &mut passed),
+        let mut rows = no_rows();
+        let mut places = no_rows();
+        let mut ends = no_counts();
+        let mut counts = no_counts();
+        let mut noted = none_noted();
+        let clock = resume(
+            c,
+            b.processes,
+            b.tell,
+            b.conditions,
+            b.slots,
+            &b.node,
+            &b.span,
+            comes,
+            place,
+            &notes,
+            &mut rows,
+            &mut places,
+            &mut ends,
+            &mut counts,
+            &mut noted,
         );
+        let number = c as u32;
+        let lacks = unmet(&b.kind, &b.condition, b.edges, number);
+        let last = course(
+            b.processes,
+            b.tell,
+            b.conditions,
+            b.slots,
+            &b.node,
+            &b.ticks,
+            &b.several,
+            &b.from,
+            &b.cue,
+            &b.remote,
+            &b.bytes,
+            &b.decider,
+            &b.intofirst,
+            &b.into,
+            &b.turnfirst,
+            &b.turn,
+            &b.queuefirst,
+            &b.queue,
+            b.round,
+            &b.offset,
+            &b.lasts,
+            &b.rooms,
+            &lacks,
+            clock,
+            0,
+            ends,
+            &mut rows,
+            &mut places,
+            &mut counts,
+            &mut noted,
+        );
+        store(
+            c,
+            clock,
+            b.slots,
+            &rows,
+            &places,
+            &counts,
+            &noted,
+            comes,
+            place,
+            since,
+            &mut notes,
+            &mut passed,
+        );
+        latest = greater(latest, last);
         c += 1;
     }
     Totals {

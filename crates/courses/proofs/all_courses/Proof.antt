@@ -1,18 +1,51 @@
--- `courses::all_courses` meets its contract: before turn c the combinations below c are planned.
+-- `courses::all_courses` meets its contract: before turn c the combinations below c are planned, and the turn plans c from what it takes over.
 -- Assumes nothing.
-use mathlib.Core.Path.{_≡_, _∙_}
-use Prim.Native.Nat.{_≤_, _-_}
+use mathlib.Core.Path.{_≡_, _∙_, subst}
+use Prim.Native.Nat.{ℕ, _≤_, _<_, _^_, _-_}
 use native.Mathlib.Omega.{arith}
+use borrow.Author.Needs.{needs}
+use lib.ListN.{length}
+use Rattle.model.specs.Plan.{Lines}
+use Rattle.board.specs.declared.Board.{Board}
+use Rattle.board.specs.Board.{Boarded}
+use Rattle.course.proofs.Loops.{fits-read, ended-read}
+use Rattle.courses.proofs.Single.{fits, ready-start, ready-long, ready-ends, ready-arrived, passes-few, course-of}
+use Rattle.courses.proofs.Taking.{resumed-ready, resumed-few, one-of}
 use Rattle.courses.proofs.All.{Sofar, sofar-start, sofar-next, sofar-end}
 use Rattle.courses.proofs.all_courses.Statement.{statement}
-use borrow.Author.Needs.{needs}
 use Rattle.courses.proofs.all_courses.Tie as tie
 
 abbrev Inv-loop : tie.InvT-loop
-Inv-loop b comes₀ place₀ since₀ n notes₀ passed₀ latest₀ c₀ comes place since notes passed latest c = (c ≤ n) × Sofar b c latest comes place since notes passed
+Inv-loop comes₀ place₀ since₀ b n notes₀ passed₀ latest₀ c₀ comes place since notes passed latest c = (c ≤ n) × Sofar b c latest comes place since notes passed
 
 abbrev μ-loop : tie.MeasureT-loop
-μ-loop b comes₀ place₀ since₀ n notes₀ passed₀ latest₀ c₀ comes place since notes passed latest c = n - c
+μ-loop comes₀ place₀ since₀ b n notes₀ passed₀ latest₀ c₀ comes place since notes passed latest c = n - c
+
+-- the board, and the number of a turn's combination
+abbrev board : tie.At-loop Inv-loop μ-loop → Board
+board l = l .before .before .before .before .args .t1
+
+few : (i : tie.In-loop Inv-loop μ-loop) → i .before .loop .c < 64
+few i = omega (arith, i .before .before .before .before .how-many .ensures .1, i .loop-test .taken)
+
+within : (i : tie.In-loop Inv-loop μ-loop) → i .before .loop .c < 2 ^ board (i .before) .conditions
+within i = omega (arith, i .before .before .before .before .how-many .ensures .0, i .loop-test .taken)
+
+among : (i : tie.In-loop Inv-loop μ-loop) (p : Lines) → Boarded p (board (i .before)) → i .before .loop .c < 2 ^ length (p .conditions)
+among i p o = subst (λ (k : ℕ). i .before .loop .c < 2 ^ k) (o .conditions-count) (within i)
+
+-- the steps of a turn before a call: its beginning, what is taken over, the edges not met
+abbrev begun : tie.After-noted Inv-loop μ-loop → tie.In-loop Inv-loop μ-loop
+begun c = c .before .before .before .before .before .before .before .before .before .before .before .before .before .before .before .before
+
+abbrev taken : tie.After-unmet Inv-loop μ-loop → tie.After-resume Inv-loop μ-loop
+taken c = c .before .before .before .before
+
+abbrev lacking : tie.After-noted2 Inv-loop μ-loop → tie.After-unmet Inv-loop μ-loop
+lacking c = c .before .before .before .before .before .before .before .before .before .before .before .before .before .before .before .before .before .before .before .before .before .before .before
+
+abbrev planned : tie.After-passed Inv-loop μ-loop → tie.After-course Inv-loop μ-loop
+planned c = c .before .before .before .before .before .before .before .before .before
 
 how-many-requires : tie.Need-how-many-requires Inv-loop μ-loop
 how-many-requires c κs = c .pre .0 .boarded .few-conditions
@@ -26,35 +59,110 @@ no-counts-requires c κs = search needs
 loop-holds : tie.Need-loop-holds Inv-loop μ-loop
 loop-holds c =
     let s = c .before .before .before in
-    (omega arith, sofar-start (s .args .b) (s .args .comes .now) (s .args .place .now) (s .args .since .now) (s .pre .1 .0) (s .pre .1 .1) (s .pre .1 .2) (c .before .no-notes .ensures) (c .no-counts .ensures))
+    (omega arith, sofar-start (s .args .t1) (s .args .comes .now) (s .args .place .now) (s .args .since .now) (s .pre .1 .0) (s .pre .1 .1) (s .pre .1 .2) (c .before .no-notes .ensures) (c .no-counts .ensures))
 
-one-requires : tie.Need-one-requires Inv-loop μ-loop
-one-requires c κs =
-    let l = c .before .before .before .before .before .before in
-    let s = l .before .before .before .before in
-    let h = l .before .before .before .how-many .ensures in
-    let t = c .before .before .before .before .before .loop-test .taken in
-    let i = l .loop .inv .1 in
-    (s .pre .0, (omega (arith, h .1, t), omega (arith, h .0, t), i .place-long, i .passed-long, i .passed-few, λ p f o. i .first p f o .earlier))
+no-rows-requires : tie.Need-no-rows-requires Inv-loop μ-loop
+no-rows-requires c κs = search needs
+
+no-rows-requires-2 : tie.Need-no-rows-requires-2 Inv-loop μ-loop
+no-rows-requires-2 c κs = search needs
+
+no-counts-requires-2 : tie.Need-no-counts-requires-2 Inv-loop μ-loop
+no-counts-requires-2 c κs = search needs
+
+no-counts-requires-3 : tie.Need-no-counts-requires-3 Inv-loop μ-loop
+no-counts-requires-3 c κs = search needs
+
+none-noted-requires : tie.Need-none-noted-requires Inv-loop μ-loop
+none-noted-requires c κs = search needs
+
+resume-requires : tie.Need-resume-requires Inv-loop μ-loop
+resume-requires c κs =
+    let z = c .before .before .before .before .before .before .before .before .before .before .before in
+    let i = begun c in
+    let l = i .before in
+    let d = l .before .before .before .before .pre .0 in
+    let f = fits (d .plan) (board l) (d .boarded) in (
+      (few i, within i, f .few-processes, f .few-rows, f .few-conditions, f .few-slots, d .boarded .node-small, l .loop .inv .1 .place-long),
+      (z .before .before .before .before .no-rows .ensures, z .before .before .before .no-rows2 .ensures, z .before .before .no-counts2 .ensures, z .before .no-counts3 .ensures, z .none-noted .ensures),
+    )
+
+cast-number : tie.Need-cast-number Inv-loop μ-loop
+cast-number c = let l = few (begun (c .before)) in omega arith
+
+unmet-requires : tie.Need-unmet-requires Inv-loop μ-loop
+unmet-requires c κs = let o = begun (c .before .before .before .before) .before .before .before .before .before .pre .0 .boarded in (o .few-edges, o .condition-small)
+
+course-requires : tie.Need-course-requires Inv-loop μ-loop
+course-requires c κs =
+    let u = lacking c in
+    let r = taken u in
+    let i = begun (r .before) in
+    let l = i .before in
+    let d = l .before .before .before .before .pre .0 in
+    let e = l .loop .inv .1 .first (d .plan) (d .passes) (d .boarded) .earlier in
+    let w = resumed-ready (d .plan) (d .passes) (board l) (d .boarded) (l .loop .c) (among i (d .plan) (d .boarded)) (l .loop .comes) (l .loop .place) (l .loop .notes) e _ _ _ _ _ _ (r .resume .ensures) in (
+      fits-read (board l) (u .unmet .result) (fits (d .plan) (board l) (d .boarded)),
+      ready-start _ _ _ _ _ _ _ _ w,
+      resumed-few (d .plan) (d .passes) (board l) (d .boarded) (l .loop .c) (among i (d .plan) (d .boarded)) (l .loop .comes) (l .loop .place) (l .loop .notes) e _ _ _ _ _ _ (r .resume .ensures),
+      ready-long _ _ _ _ _ _ _ _ w,
+      ready-ends (d .plan) (board l) (d .boarded) _ _ _ _ _ _ _ w,
+      ready-arrived (d .plan) (board l) (d .boarded) _ _ _ _ _ _ _ w,
+    )
+
+store-requires : tie.Need-store-requires Inv-loop μ-loop
+store-requires c κs =
+    let x = planned c in
+    let u = lacking (x .before) in
+    let r = taken u in
+    let i = begun (r .before) in
+    let l = i .before in
+    let d = l .before .before .before .before .pre .0 in
+    let p = d .plan in
+    let o = d .boarded in
+    let e = l .loop .inv .1 .first p (d .passes) o .earlier in
+    let w = resumed-ready p (d .passes) (board l) o (l .loop .c) (among i p o) (l .loop .comes) (l .loop .place) (l .loop .notes) e _ _ _ _ _ _ (r .resume .ensures) in
+    let k = course-of p (d .passes) (board l) o (l .loop .c) (among i p o) (u .unmet .result) (u .unmet .ensures) _ _ _ _ _ _ w _ _ _ _ _ (ended-read (board l) (u .unmet .result) _ _ _ _ _ _ (x .course .ensures)) in (
+      few i,
+      o .few-slots,
+      k .held .comes-long,
+      k .held .place-long,
+      k .counts-long,
+      k .noted-long,
+      λ n m.
+          omega (
+            arith,
+            l .loop .inv .1 .passed-few n m,
+            few i,
+            k .counted n (subst (λ (j : ℕ). n < j) (o .slots-count) m),
+            passes-few p (d .passes) n (l .loop .c) (among i p o),
+          ),
+    )
 
 greater-requires : tie.Need-greater-requires Inv-loop μ-loop
 greater-requires c κs = search needs
 
 add-c : tie.Need-add-c Inv-loop μ-loop
-add-c c = search needs
+add-c c = let l = few (begun (taken (lacking (planned (c .before .before) .before)) .before)) in omega arith
 
 loop-less : tie.Need-loop-less Inv-loop μ-loop
-loop-less c = search needs
+loop-less c = let t = begun (taken (lacking (planned (c .before .before) .before)) .before) .loop-test .taken in omega (arith, t)
 
 loop-again : tie.Need-loop-again Inv-loop μ-loop
 loop-again c =
-    let l = c .before .before .before .before .before .before .before .before in
-    let s = l .before .before .before .before in
-    let h = l .before .before .before .how-many .ensures in
-    let t = c .before .before .before .before .before .before .before .loop-test .taken in (
-      omega (arith, t),
-      sofar-next (s .args .b) (s .pre .0) (l .loop .c) (l .loop .latest) (c .before .one .result) (l .loop .comes) (l .loop .place) (l .loop .since) (l .loop .notes) (l .loop .passed) _ _ _ _ _
-          (omega (arith, h .1, t)) (omega (arith, h .0, t)) (l .loop .inv .1) (c .before .one .ensures) (c .greater .ensures),
+    let x = planned (c .before .before) in
+    let u = lacking (x .before) in
+    let r = taken u in
+    let i = begun (r .before) in
+    let l = i .before in
+    let s = l .before .before .before .before in (
+      (let t = i .loop-test .taken in omega (arith, t)),
+      sofar-next (board l) (s .pre .0) (l .loop .c) (l .loop .latest) (x .course .result) (l .loop .comes) (l .loop .place) (l .loop .since) (l .loop .notes) (l .loop .passed) _ _ _ _ _
+          (few i) (within i) (l .loop .inv .1)
+          (λ p f o.
+          one-of p f (board l) o (l .loop .c) (among i p o) (l .loop .comes) (l .loop .place) (l .loop .notes) (l .loop .inv .1 .first p f o .earlier) _ _ _ _ _ _ (r .resume .ensures)
+          (u .unmet .result) (u .unmet .ensures) (ended-read (board l) (u .unmet .result) _ _ _ _ _ _ (x .course .ensures)) (l .loop .since) (l .loop .passed) (l .loop .inv .1 .passed-long) (c .before .store .ensures))
+          (c .greater .ensures),
     )
 
 less-requires : tie.Need-less-requires Inv-loop μ-loop
@@ -63,10 +171,9 @@ less-requires c κs = search needs
 returns : tie.Need-returns Inv-loop μ-loop
 returns c =
     let l = c .before .before in
-    let s = l .before .before .before .before in
     let h = l .before .before .before .how-many .ensures in
     let q : l .loop .c ≡ l .before .before .before .how-many .result = omega (arith, l .loop .inv .0, c .before .loop-test .left) in
-    sofar-end (s .args .b) (l .loop .c) (l .loop .latest) (l .loop .comes) (l .loop .place) (l .loop .since) (l .loop .notes) (l .loop .passed) (q ∙ h .0) (omega (arith, q, h .1)) (l .loop .inv .1) (c .less .result) (c .less .ensures)
+    sofar-end (board l) (l .loop .c) (l .loop .latest) (l .loop .comes) (l .loop .place) (l .loop .since) (l .loop .notes) (l .loop .passed) (q ∙ h .0) (omega (arith, q, h .1)) (l .loop .inv .1) (c .less .result) (c .less .ensures)
 
 pub all-courses-spec : {M : Type 1} → statement M
 all-courses-spec =
@@ -78,7 +185,16 @@ all-courses-spec =
     no-notes-requires
     no-counts-requires
     loop-holds
-    one-requires
+    no-rows-requires
+    no-rows-requires-2
+    no-counts-requires-2
+    no-counts-requires-3
+    none-noted-requires
+    resume-requires
+    cast-number
+    unmet-requires
+    course-requires
+    store-requires
     greater-requires
     add-c
     loop-less
