@@ -5,6 +5,11 @@
  * A pointer and the length behind it belong together: the bytes from the pointer on, as many as the
  * length says, stay lent for the call. A slice of no bytes may have any pointer but NULL. Lent bytes
  * do not overlap. Every function returns for every text and every buffer.
+ *
+ * Nothing is allocated and nothing is kept between calls: a call works on its caller's stack. Measured on
+ * x86-64, the least stack with which a process that made the call came through, to 8 KiB: riscadru_plan_table
+ * 719 KiB, riscadru_plan_listing 455, riscadru_check_table 335, riscadru_lookup 63, riscadru_copy_plan 47, the
+ * row functions 23. That is not proved.
  */
 #ifndef RISCADRU_H
 #define RISCADRU_H

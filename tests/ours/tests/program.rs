@@ -76,7 +76,7 @@ fn prints_listings_and_the_largest_refusals() {
     }
 }
 
-/// "Longer input than 16,384 bytes is refused 1 without reading on forever."
+/// A longer input than 16,384 bytes is refused 1, and is not read to its end.
 #[test]
 fn stops_reading_a_long_input() {
     let root = PathBuf::from(env!("CARGO_MANIFEST_DIR"));
