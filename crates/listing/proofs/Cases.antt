@@ -1,8 +1,9 @@
 -- Which text a column's condition and an entry have, by the tests that the code makes.
 -- Assumes nothing.
-use mathlib.Core.Path.{_≡_, refl}
-use mathlib.Core.List.{[], _++_}
-use Prim.Native.Nat.{ℕ, zero, suc, _+_, _-_, _/_, _%_, _≤_, _<_}
+use mathlib.Core.Path.{_≡_, refl, sym, ap}
+use mathlib.Core.List.{List, [], _++_, append-nil}
+use Prim.Native.Nat.{ℕ, zero, suc, _+_, _-_, _/_, _%_, _^_, _≤_, _<_}
+use native.Mathlib.Nat.{pow-suc}
 use native.Mathlib.Numerals.{add-one}
 use native.Mathlib.Omega.{arith}
 use borrow.Author.Tests.{lt-ltb, le-ltb, eq-eqb, ne-eqb}
@@ -38,6 +39,31 @@ pub values-none : (n values k : ℕ) → values-from n 0 values k ≡ []
 unfolding values-from value-at
 values-none zero values k = refl
 values-none (suc n) values k = values-none n (values / 2) (suc k)
+
+-- halves of halves
+halves : (x : ℕ) → (x / 2 / 2 ≡ x / 4) × (x / 4 / 2 ≡ x / 8) × (x / 8 / 2 ≡ x / 16) × (x / 16 / 2 ≡ x / 32)
+halves x = (omega arith, omega arith, omega arith, omega arith)
+
+-- words that have no bit past n and none past m show the same in n conditions and in m
+pub values-same : (n m known values k : ℕ) → known < 2 ^ n → known < 2 ^ m → values-from n known values k ≡ values-from m known values k
+unfolding values-from
+values-same zero m known values k h l = let e : known ≡ 0 = omega arith in rw e (sym (values-none m values k))
+values-same (suc n) zero known values k h l = let e : known ≡ 0 = omega arith in rw e (values-none (suc n) values k)
+values-same (suc n) (suc m) known values k h l =
+    ap (λ (s : List ℕ). value-at known values k ++ s) (values-same n m (known / 2) (values / 2) (suc k) (omega (arith, pow-suc 2 n)) (omega (arith, pow-suc 2 m)))
+
+-- six conditions, each by its own bit
+pub values-six : (known values : ℕ) →
+    values-from 6 known values 0
+    ≡ value-at known values 0
+    ++ (value-at (known / 2) (values / 2) 1
+    ++ (value-at (known / 4) (values / 4) 2
+    ++ (value-at (known / 8) (values / 8) 3 ++ (value-at (known / 16) (values / 16) 4 ++ value-at (known / 32) (values / 32) 5))))
+unfolding values-from
+values-six known values =
+    let a = halves known in
+    let b = halves values in
+    rw (a .0, a .1, a .2, a .3, b .0, b .1, b .2, b .3, append-nil (value-at (known / 32) (values / 32) 5))
 
 module _ (processes edges conditions row known values tick place : ℕ) where
   pub entry-start : row < processes → entry-of processes edges conditions row known values tick place ≡ start-of conditions row known values tick

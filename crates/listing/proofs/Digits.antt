@@ -1,4 +1,4 @@
--- How many decimal digits a number has, and its digits two at a time.
+-- How many decimal digits a number has, and its digits two and four at a time.
 -- Assumes nothing.
 use mathlib.Core.Path.{_≡_, ap, _∙_}
 use mathlib.Core.List.{[], _∷_, _++_, append-assoc}
@@ -8,7 +8,7 @@ use native.Mathlib.Omega.{arith}
 use lib.ListN.{length, length-append}
 use Rattle.model.specs.Text.{decimal}
 use Rattle.grammar.proofs.Numbers.{decimal-small, decimal-large}
-use Rattle.listing.specs.Parts.{two-digits}
+use Rattle.listing.specs.Parts.{two-digits, four-digits}
 
 pub one-digit : (n : ℕ) → n < 10 → length (decimal n) ≡ 1
 one-digit n h = rw (decimal-small n h)
@@ -32,3 +32,17 @@ decimal-pair n l =
     let d : n % 10 ≡ n % 100 % 10 = omega arith in
     decimal-large n (omega arith)
     ∙ rw (decimal-large (n / 10) (omega arith), a, b, ← d) (append-assoc (decimal (n / 100)) ((48 + n % 100 / 10) ∷ []) ((48 + n % 10) ∷ []))
+
+pub decimal-three : (n : ℕ) → 100 ≤ n → n < 1000 → decimal n ≡ ((48 + n / 100) ∷ []) ++ two-digits (n % 100)
+decimal-three n l h = decimal-pair n l ∙ rw (decimal-small (n / 100) (omega arith))
+
+pub decimal-four : (n : ℕ) → 1000 ≤ n → n < 10000 → decimal n ≡ four-digits n
+decimal-four n l h = decimal-pair n (omega arith) ∙ rw (decimal-two (n / 100) (omega arith) (omega arith))
+
+pub decimal-fours : (n : ℕ) → 10000 ≤ n → decimal n ≡ decimal (n / 10000) ++ four-digits (n % 10000)
+decimal-fours n l =
+    let a : n / 100 / 100 ≡ n / 10000 = omega arith in
+    let b : n / 100 % 100 ≡ n % 10000 / 100 = omega arith in
+    let d : n % 100 ≡ n % 10000 % 100 = omega arith in
+    decimal-pair n (omega arith)
+    ∙ rw (decimal-pair (n / 100) (omega arith), a, b, d) (append-assoc (decimal (n / 10000)) (two-digits (n % 10000 / 100)) (two-digits (n % 10000 % 100)))

@@ -1,7 +1,7 @@
 -- The lines of a listing as the labels and numbers that are counted and stored one after another, from the counts of a plan and the words
 -- of a table and a frame list. proofs/Lines.antt shows that they are the lines of document 01.
 -- Assumes nothing.
-use Prim.Native.Nat.{ℕ, zero, suc, _+_, _-_, _/_, _%_}
+use Prim.Native.Nat.{ℕ, zero, suc, _+_, _-_, _*_, _/_, _%_}
 use Prim.Native.String.{String}
 use mathlib.Core.List.{List, [], _∷_, _++_}
 use lib.Dec.{eqb, ltb}
@@ -12,6 +12,10 @@ use Rattle.model.specs.Table.{Entry, Frame, entries-of, frames-of}
 -- the two digits of a number below a hundred, with a leading zero
 abbrev pub two-digits : ℕ → List ℕ
 two-digits n = (48 + n / 10) ∷ (48 + n % 10) ∷ []
+
+-- the four digits of a number below ten thousand, with leading zeros
+abbrev pub four-digits : ℕ → List ℕ
+four-digits n = two-digits (n / 100) ++ two-digits (n % 100)
 
 -- a label and the number after it
 abbrev pub labelled : String → ℕ → List ℕ
@@ -76,3 +80,7 @@ head-of delay passed = labelled "(delay " delay ++ (labelled ")\n(passed " passe
 unfoldable pub listing-of : ℕ → ℕ → ℕ → ℕ → ℕ → List ℕ → List ℕ → List ℕ
 listing-of processes edges conditions delay passed table frames =
     head-of delay passed ++ (entries-text processes edges conditions table ++ frames-text frames)
+
+-- the most bytes of a listing of so many words, for a plan of at most six conditions: of the first two lines, of each entry's line and of each frame's line
+unfoldable pub most-bytes : ℕ → ℕ → ℕ
+most-bytes words framewords = 39 + 120 * (words / 5) + 56 * (framewords / 3)

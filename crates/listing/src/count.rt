@@ -1,11 +1,12 @@
 // How many bytes a listing needs, counted line by line with no store: each function takes a room, and answers what its text leaves of it,
-// or 0 where the text needs more.
+// or 0 where the text needs more. Nothing is counted where the lent bytes suffice for any listing of as many words.
 ghost use mathlib.Core.Path.{_≡_};
+ghost use mathlib.Core.Bool.{true};
 ghost use Prim.Native.Nat.{_-_, _≤_};
 ghost use lib.Dec.{ltb};
 ghost use lib.ListN.{length};
 ghost use Rattle.model.specs.Text.{text, decimal};
-ghost use Rattle.listing.specs.Parts.{value-at, values-from, start-of, item-of, entry-of, entries-text, frame-of, frames-text, listing-of};
+ghost use Rattle.listing.specs.Parts.{most-bytes, value-at, values-from, start-of, item-of, entry-of, entries-text, frame-of, frames-text, listing-of};
 
 // A word as a count.
 pub fn wide(x: u32) -> usize
@@ -203,6 +204,26 @@ fn frames_room(room: usize, frames: &[u32]) -> usize
     left
 }
 
+// The lent bytes suffice for any listing of so many words, for a plan of at most six conditions: an entry's line has at most 120 bytes, a frame's at most 56,
+// the first two lines at most 39. Where this answers no they may suffice all the same.
+fn suffice(lent: usize, conditions: usize, words: usize, framewords: usize) -> bool
+    ensures { λ r. ⌜ (r ≡ true → (conditions ≤ 6) × (most-bytes words framewords ≤ lent)) ⌝ }
+{
+    if 6 < conditions {
+        return false;
+    }
+    if 1000000 < words {
+        return false;
+    }
+    if 1000000 < framewords {
+        return false;
+    }
+    if lent < 39 + 120 * (words / 5) + 56 * (framewords / 3) {
+        return false;
+    }
+    true
+}
+
 // A listing needs more bytes than are lent.
 pub fn exceeds<'a>(
     lent: usize,
@@ -216,6 +237,9 @@ pub fn exceeds<'a>(
 ) -> bool
     ensures { λ r. ⌜ r ≡ ltb lent (length (listing-of processes edges conditions delay passed (now (table .entry)) (now (frames .entry)))) ⌝ }
 {
+    if suffice(lent, conditions, table.len(), frames.len()) {
+        return false;
+    }
     let head = 19 + digits(delay) + digits(passed);
     if lent < head {
         return true;

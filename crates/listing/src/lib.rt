@@ -1,5 +1,5 @@
 // The listing: a table and a frame list, or a refusal, as the lines that the planning program prints, in lent bytes.
-// It is counted first, with no store, so that refusal 10 leaves the bytes unchanged; then it is stored.
+// Where fewer bytes are lent than such a listing may need it is counted first, with no store, so that refusal 10 leaves the bytes unchanged; then it is stored.
 mod count;
 mod store;
 

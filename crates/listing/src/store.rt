@@ -6,13 +6,13 @@ use text::filled;
 use text::start;
 ghost use mathlib.Core.Path.{_≡_};
 ghost use mathlib.Core.List.{[], _∷_, _++_};
-ghost use Prim.Native.Nat.{_+_, _<_};
+ghost use Prim.Native.Nat.{_+_, _^_, _≤_, _<_};
 ghost use Rattle.model.specs.Listing.{refused-line};
 ghost use Rattle.model.specs.Text.{decimal};
 ghost use Rattle.text.specs.Line.{put-on};
 ghost use Rattle.text.specs.Put.{Put};
 ghost use Rattle.listing.specs.Fits.{Fits};
-ghost use Rattle.listing.specs.Parts.{two-digits, value-at, values-from, column-of, start-of, item-of, entry-of, entries-text, frame-of, frames-text, head-of, listing-of};
+ghost use Rattle.listing.specs.Parts.{two-digits, four-digits, value-at, values-from, column-of, start-of, item-of, entry-of, entries-text, frame-of, frames-text, head-of, listing-of};
 
 // Stores a word.
 fn put_word(out: &mut [u8], at: usize, word: &[u8]) -> usize
@@ -53,9 +53,18 @@ fn put_two(out: &mut [u8], at: usize, n: u32) -> usize
     put_digit(out, end, n % 10)
 }
 
-// Stores the decimal digits of a number, two at a time.
-fn put_digits(out: &mut [u8], at: usize, n: u32) -> usize
-    requires { ⌜ Fits (now out) at (decimal n) ⌝ }
+// Stores the four digits of a number below ten thousand, with leading zeros.
+fn put_four(out: &mut [u8], at: usize, n: u32) -> usize
+    requires { ⌜ (n < 10000) × Fits (now out) at (four-digits n) ⌝ }
+    ensures { λ r. ⌜ Put (now (out .entry)) (now (out .exit)) at r (four-digits n) ⌝ }
+{
+    let end = put_two(out, at, n / 100);
+    put_two(out, end, n % 100)
+}
+
+// Stores the decimal digits of a number below ten thousand.
+fn put_short(out: &mut [u8], at: usize, n: u32) -> usize
+    requires { ⌜ (n < 10000) × Fits (now out) at (decimal n) ⌝ }
     ensures { λ r. ⌜ Put (now (out .entry)) (now (out .exit)) at r (decimal n) ⌝ }
 {
     if n < 10 {
@@ -64,8 +73,29 @@ fn put_digits(out: &mut [u8], at: usize, n: u32) -> usize
     if n < 100 {
         return put_two(out, at, n);
     }
-    let end = put_digits(out, at, n / 100);
-    put_two(out, end, n % 100)
+    if n < 1000 {
+        let end = put_digit(out, at, n / 100);
+        return put_two(out, end, n % 100);
+    }
+    put_four(out, at, n)
+}
+
+// Stores the decimal digits of a number, four at a time.
+fn put_digits(out: &mut [u8], at: usize, n: u32) -> usize
+    requires { ⌜ Fits (now out) at (decimal n) ⌝ }
+    ensures { λ r. ⌜ Put (now (out .entry)) (now (out .exit)) at r (decimal n) ⌝ }
+{
+    if n < 10000 {
+        return put_short(out, at, n);
+    }
+    let upper = n / 10000;
+    if upper < 10000 {
+        let end = put_short(out, at, upper);
+        return put_four(out, end, n % 10000);
+    }
+    let first = put_short(out, at, upper / 10000);
+    let second = put_four(out, first, upper % 10000);
+    put_four(out, second, n % 10000)
 }
 
 // Stores the decimal digits of a number: most have one.
@@ -104,8 +134,8 @@ fn put_value(out: &mut [u8], at: usize, known: u32, values: u32, k: u32) -> usiz
     put_word(out, number, b")")
 }
 
-// Stores the known conditions of a column that the plan has. A word has no bit past its thirty-second.
-fn put_values(out: &mut [u8], at: usize, conditions: usize, known: u32, values: u32) -> usize
+// Stores the known conditions of a column that the plan has, one by one. A word has no bit past its thirty-second.
+fn put_each(out: &mut [u8], at: usize, conditions: usize, known: u32, values: u32) -> usize
     requires { ⌜ Fits (now out) at (values-from conditions known values 0) ⌝ }
     ensures { λ r. ⌜ Put (now (out .entry)) (now (out .exit)) at r (values-from conditions known values 0) ⌝ }
 {
@@ -125,7 +155,77 @@ fn put_values(out: &mut [u8], at: usize, conditions: usize, known: u32, values: 
     end
 }
 
-// Stores a column and its tick, up to the tick's last digit.
+// Stores condition k of a column, if it is known, where k is below ten: the lowest bits of `known` and `values` are its.
+fn put_digit_value(out: &mut [u8], at: usize, known: u32, values: u32, k: u32) -> usize
+    requires { ⌜ (k < 10) × Fits (now out) at (value-at known values k) ⌝ }
+    ensures { λ r. ⌜ Put (now (out .entry)) (now (out .exit)) at r (value-at known values k) ⌝ }
+{
+    if known % 2 == 0 {
+        return at;
+    }
+    if values % 2 == 0 {
+        let number = put_word(out, at, b" (false ");
+        let end = put_digit(out, number, k);
+        return put_word(out, end, b")");
+    }
+    let number = put_word(out, at, b" (true ");
+    let end = put_digit(out, number, k);
+    put_word(out, end, b")")
+}
+
+// Stores the conditions 0 to 5 of a column that are known.
+fn put_six(out: &mut [u8], at: usize, known: u32, values: u32) -> usize
+    requires { ⌜ Fits (now out) at (values-from 6 known values 0) ⌝ }
+    ensures { λ r. ⌜ Put (now (out .entry)) (now (out .exit)) at r (values-from 6 known values 0) ⌝ }
+{
+    let one = put_digit_value(out, at, known, values, 0);
+    let two = put_digit_value(out, one, known / 2, values / 2, 1);
+    let three = put_digit_value(out, two, known / 4, values / 4, 2);
+    let four = put_digit_value(out, three, known / 8, values / 8, 3);
+    let five = put_digit_value(out, four, known / 16, values / 16, 4);
+    put_digit_value(out, five, known / 32, values / 32, 5)
+}
+
+// How many sets of known conditions a plan has, where it has at most six conditions; otherwise none.
+fn known_sets(conditions: usize) -> u32
+    ensures { λ r. ⌜ (r ≤ 64) × (r ≤ 2 ^ conditions) ⌝ }
+{
+    if 6 < conditions {
+        return 0;
+    }
+    if conditions == 0 {
+        return 1;
+    }
+    if conditions == 1 {
+        return 2;
+    }
+    if conditions == 2 {
+        return 4;
+    }
+    if conditions == 3 {
+        return 8;
+    }
+    if conditions == 4 {
+        return 16;
+    }
+    if conditions == 5 {
+        return 32;
+    }
+    64
+}
+
+// Stores the known conditions of a column that the plan has.
+fn put_values(out: &mut [u8], at: usize, conditions: usize, known: u32, values: u32) -> usize
+    requires { ⌜ Fits (now out) at (values-from conditions known values 0) ⌝ }
+    ensures { λ r. ⌜ Put (now (out .entry)) (now (out .exit)) at r (values-from conditions known values 0) ⌝ }
+{
+    if known < known_sets(conditions) {
+        return put_six(out, at, known, values);
+    }
+    put_each(out, at, conditions, known, values)
+}
+
+// Stores a column and its tick, up to the tick's last digit: most ticks have several.
 fn put_column(
     out: &mut [u8],
     at: usize,
@@ -139,7 +239,8 @@ fn put_column(
 {
     let when = put_word(out, at, b" (when");
     let end = put_values(out, when, conditions, known, values);
-    put_labelled(out, end, b") (at ", tick)
+    let number = put_word(out, end, b") (at ");
+    put_digits(out, number, tick)
 }
 
 // Stores the line of a process.

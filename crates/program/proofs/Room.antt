@@ -3,16 +3,14 @@
 -- Assumes nothing.
 use mathlib.Core.Path.{_≡_, refl, sym, ap, _∙_, subst}
 use mathlib.Core.Bool.{Bool, true, false}
-use mathlib.Core.Logic.{_⊎_, inl, inr}
 use mathlib.Core.List.{List, [], _∷_, List·Memᴰ as In}
-use Prim.Native.Nat.{ℕ, zero, suc, _+_, _-_, _*_, _/_, _%_, _^_, _≤_, _<_}
-use native.Mathlib.Nat.{pow-suc, pow-le-pow-right}
+use Prim.Native.Nat.{ℕ, _+_, _-_, _*_, _^_, _≤_, _<_}
+use native.Mathlib.Nat.{pow-le-pow-right}
 use native.Mathlib.Omega.{arith}
-use borrow.Author.Tests.{ltb-true, ltb-false, eqb-true, eqb-false}
+use borrow.Author.Tests.{ltb-false}
 use lib.Dec.{eqb, ltb}
-use lib.ListN.{length, length-append, length-map}
+use lib.ListN.{length, length-map}
 use Rattle.lists.specs.Lists.{if_then_else_, any, keep, each, below, sum}
-use Rattle.lists.proofs.Tests.{two}
 use Rattle.lists.proofs.Members.{map-in}
 use Rattle.lists.proofs.Keep.{length-upfrom}
 use Rattle.lists.proofs.Sums.{greatest-le, sum-most-in, length-each}
@@ -23,7 +21,7 @@ use Rattle.model.specs.Log.{Placed, full-ticks, delay}
 use Rattle.model.specs.Planning.{State, bound, planned}
 use Rattle.model.specs.Refusals.{Refusal, nothing, refused, sentence, or-else, plan-refusal, wrong-counts, wrong-sizes, wrong-nodes, wrong-deciders, wrong-ends, twin-edges, wrong-when, too-long}
 use Rattle.model.specs.Table.{Entry, Frame, Answer, turned-down, made, Result, result, Planned, plans, passed-by, entry-of, entry-words, frame-words, answered, room-refusal, plan-answer}
-use Rattle.model.specs.Text.{decimal, Reading, after-refusal, Answers-text, of-no-form, of-form}
+use Rattle.model.specs.Text.{Reading, after-refusal, Answers-text, of-no-form, of-form}
 use Rattle.model.specs.Text as m
 use Rattle.model.specs.Listing.{refused-line, printed, program-prints}
 use Rattle.laws.proofs.Bound.{bound-small, delay-within}
@@ -38,12 +36,10 @@ use Rattle.laws.proofs.Rules.{Kept}
 use Rattle.laws.proofs.Safety.{planning-keeps}
 use Rattle.laws.proofs.Slots.{slot-in}
 use Rattle.mask.proofs.Numbered.{combinations-count}
-use Rattle.grammar.proofs.Numbers.{decimal-large}
-use Rattle.listing.specs.Parts.{value-at, values-from, item-of, entry-text, entries-text, frame-text, frames-text, listing-of}
-use Rattle.listing.specs.Parts.{entry-of as line-of}
+use Rattle.listing.specs.Parts.{entry-text, entries-text, frame-text, frames-text, listing-of}
 use Rattle.listing.proofs.Digits.{one-digit}
-use Rattle.listing.proofs.Cases.{value-none, value-false, value-true, entry-start, entry-send, entry-tell, entry-none}
-use Rattle.listing.proofs.Lengths.{false-length, true-length, start-length, item-length, frame-length, listing-length}
+use Rattle.listing.proofs.Lengths.{frame-length, listing-length}
+use Rattle.listing.proofs.Most.{digits-most, line-most}
 use Rattle.listing.proofs.Lines.{refused-length, listing-same}
 use Rattle.listing.proofs.Printed.{printed-words, entries-back, frames-back}
 use Rattle.program.proofs.Printing.{made-suffice}
@@ -65,84 +61,6 @@ entry-words-count (e ∷ es) = let r = entry-words-count es in omega arith
 pub frame-words-count : (fs : List Frame) → length (frame-words fs) ≡ 3 * length fs
 frame-words-count [] = refl
 frame-words-count (f ∷ fs) = let r = frame-words-count fs in omega arith
-
--- a number below a power of ten has no more digits than the power says
-pub digits-most : (k n : ℕ) → n < 10 ^ suc k → length (decimal n) ≤ suc k
-digits-most zero n h = omega (arith, one-digit n (omega arith))
-digits-most (suc k) n h =
-    at (two (ltb n 10)) (digits-most k (n / 10) (omega (arith, pow-suc 10 (suc k))))
-  where
-    at : (ltb n 10 ≡ true) ⊎ (ltb n 10 ≡ false) → length (decimal (n / 10)) ≤ suc k → length (decimal n) ≤ suc (suc k)
-    at (inl e) r = omega (arith, one-digit n (ltb-true n 10 e))
-    at (inr e) r = omega (arith, ap length (decimal-large n (ltb-false n 10 e)), length-append (decimal (n / 10)) ((48 + n % 10) ∷ []))
-
--- a condition of a column, and n of them
-value-most : (known values k : ℕ) → k < 10 → length (value-at known values k) ≤ 10
-value-most known values k l = at (two (eqb (known % 2) 0)) (two (eqb (values % 2) 0))
-  where
-    at : (eqb (known % 2) 0 ≡ true) ⊎ (eqb (known % 2) 0 ≡ false) → (eqb (values % 2) 0 ≡ true) ⊎ (eqb (values % 2) 0 ≡ false) → length (value-at known values k) ≤ 10
-    at (inl e) d = omega (arith, ap length (value-none known values k (eqb-true _ _ e)))
-    at (inr e) (inl d) = omega (arith, ap length (value-false known values k (eqb-false _ _ e) (eqb-true _ _ d)), false-length k, one-digit k l)
-    at (inr e) (inr d) = omega (arith, ap length (value-true known values k (eqb-false _ _ e) (eqb-false _ _ d)), true-length k, one-digit k l)
-
-values-most : (n known values k : ℕ) → k + n ≤ 10 → length (values-from n known values k) ≤ 10 * n
-unfolding values-from
-values-most zero known values k l = omega arith
-values-most (suc n) known values k l =
-    omega (
-      arith,
-      length-append (value-at known values k) (values-from n (known / 2) (values / 2) (suc k)),
-      value-most known values k (omega arith),
-      values-most n (known / 2) (values / 2) (suc k) (omega arith),
-    )
-
--- the line of an entry
-module _ (processes edges conditions row known values tick place : ℕ) (few : processes ≤ 64) (few-edges : edges ≤ 128) (few-conditions : conditions ≤ 6)
-    (tick-most : tick ≤ 999999999) (place-most : processes ≤ row → place ≤ 64) where
-  abbrev line : List ℕ
-  line = line-of processes edges conditions row known values tick place
-
-  column : length (values-from conditions known values 0) ≤ 60
-  column = omega (arith, values-most conditions known values 0 (omega arith))
-
-  tick-digits : length (decimal tick) ≤ 9
-  tick-digits = digits-most 8 tick (omega arith)
-
-  item-most : (label : List ℕ) → length label ≡ 6 → (number : ℕ) → number < 1000 → processes ≤ row → length (item-of label conditions number known values tick place) ≤ 104
-  item-most label six number n h =
-      let q = place-most h in
-      omega (arith, item-length label six conditions number known values tick place, column, tick-digits, digits-most 2 number n, digits-most 1 place (omega arith))
-
-  line-most : length line ≤ 104
-  line-most = at (two (ltb row processes)) (two (ltb (row - processes) edges)) (two (ltb (row - processes - edges) conditions))
-    where
-      at : (ltb row processes ≡ true) ⊎ (ltb row processes ≡ false) → (ltb (row - processes) edges ≡ true) ⊎ (ltb (row - processes) edges ≡ false) →
-          (ltb (row - processes - edges) conditions ≡ true) ⊎ (ltb (row - processes - edges) conditions ≡ false) → length line ≤ 104
-      at (inl a) b c =
-          let h = ltb-true _ _ a in
-          omega (
-            arith,
-            ap length (entry-start processes edges conditions row known values tick place h),
-            start-length conditions row known values tick,
-            column,
-            tick-digits,
-            digits-most 1 row (omega arith),
-          )
-      at (inr a) (inl b) c =
-          let h = ltb-false _ _ a in
-          let l = ltb-true _ _ b in
-          omega (arith, ap length (entry-send processes edges conditions row known values tick place h l), item-most (m.text "(send ") refl (row - processes) (omega arith) h)
-      at (inr a) (inr b) (inl c) =
-          let h = ltb-false _ _ a in
-          let l = ltb-false _ _ b in
-          let o = ltb-true _ _ c in
-          omega (
-            arith,
-            ap length (entry-tell processes edges conditions row known values tick place h l o),
-            item-most (m.text "(tell ") refl (row - processes - edges) (omega arith) h,
-          )
-      at (inr a) (inr b) (inr c) =
-          omega (arith, ap length (entry-none processes edges conditions row known values tick place (ltb-false _ _ a) (ltb-false _ _ b) (ltb-false _ _ c)))
 
 -- the bounds of an entry of the planner's table
 record Bounded (p : Lines) (e : Entry) : Type 0 where
@@ -173,8 +91,8 @@ module _ (p : Lines) (fine : plan-refusal p ≡ nothing) where
   entry-most : (e : Entry) → In e (result p .entries) → length (entry-text (length (p .processes)) (length (p .edges)) (length (p .conditions)) e) ≤ 104
   entry-most e i =
       let b = entry-bounded e i in
-      line-most (length (p .processes)) (length (p .edges)) (length (p .conditions)) (e .row) (e .known) (e .values) (e .tick) (e .place) (g .few-processes) (g .few-edges)
-      (g .few-conditions) (b .tick) (λ h. (let q = b .item h .1 in omega arith))
+      line-most (length (p .processes)) (length (p .edges)) (length (p .conditions)) (e .row) (e .known) (e .values) (e .tick) (e .place) 2 8 1 (g .few-conditions)
+      (λ l. omega (arith, g .few-processes, g .few-edges, g .few-conditions)) (omega (arith, b .tick)) (λ h. (let q = b .item h .1 in omega arith))
 
   frame-most : (f : Frame) → In f (result p .frames) → length (frame-text f) ≤ 38
   frame-most f i =

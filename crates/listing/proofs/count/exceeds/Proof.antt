@@ -1,16 +1,30 @@
--- `listing::count::exceeds` meets its contract: the room is the bytes lent and one more, and it is used up where the listing needs more.
+-- `listing::count::exceeds` meets its contract: where any listing of so many words fits, this one does. Otherwise the room is the bytes lent and one more, and it is used up where
+-- the listing needs more.
 -- Assumes nothing.
 use mathlib.Core.Path.{sym}
 use native.Mathlib.Omega.{arith}
 use lib.ListN.{length}
 use Prim.Native.Nat.{_+_}
-use borrow.Author.Tests.{lt-ltb}
+use borrow.Author.Tests.{lt-ltb, le-ltb}
 use Rattle.model.specs.Text.{decimal}
 use Rattle.listing.specs.Parts.{entries-text, frames-text, listing-of}
 use Rattle.listing.proofs.Lengths.{listing-length, used-up}
+use Rattle.listing.proofs.Most.{Ten-digits, listing-most}
 use borrow.Author.Needs.{needs}
 use Rattle.listing.proofs.count.exceeds.Statement.{statement}
 use Rattle.listing.proofs.count.exceeds.Tie as tie
+
+suffice-requires : tie.Need-suffice-requires
+suffice-requires c κs = search needs
+
+returns : tie.Need-returns
+returns c =
+    let s = c .before .suffice .ensures (c .if1 .taken) in
+    let k = c .before .before in
+    let a = c .before .before .before .before .args in
+    let table : Ten-digits (a .table .now) = λ i. omega (arith, k .before .shared-slice-known .given i) in
+    let frames : Ten-digits (a .frames .now) = λ i. omega (arith, k .shared-slice-known2 .given i) in
+    sym (le-ltb (a .lent) (length (listing-of (a .processes) (a .edges) (a .conditions) (a .delay) (a .passed) (a .table .now) (a .frames .now))) (omega (arith, s .1, listing-most (a .processes) (a .edges) (a .conditions) (a .delay) (a .passed) (a .table .now) (a .frames .now) (s .0) (omega arith) (omega arith) table frames)))
 
 digits-requires : tie.Need-digits-requires
 digits-requires c κs = search needs
@@ -24,9 +38,9 @@ digits-requires-2 c κs = search needs
 add-head-2 : tie.Need-add-head-2
 add-head-2 c = search needs
 
-returns : tie.Need-returns
-returns c =
-    let a = c .before .before .before .before .before .args in
+returns-2 : tie.Need-returns-2
+returns-2 c =
+    let a = c .before .before .before .before .before .before .before .args in
     sym (lt-ltb (a .lent) (length (listing-of (a .processes) (a .edges) (a .conditions) (a .delay) (a .passed) (a .table .now) (a .frames .now))) (omega (arith, listing-length (a .processes) (a .edges) (a .conditions) (a .delay) (a .passed) (a .table .now) (a .frames .now), c .before .digits2 .ensures .0, c .before .before .digits .ensures .0)))
 
 add-entries-room : tie.Need-add-entries-room
@@ -38,9 +52,9 @@ entries-room-requires c κs = search needs
 frames-room-requires : tie.Need-frames-room-requires
 frames-room-requires c κs = search needs
 
-returns-2 : tie.Need-returns-2
-returns-2 c =
-    let a = c .before .before .before .before .before .before .before .args in
+returns-3 : tie.Need-returns-3
+returns-3 c =
+    let a = c .before .before .before .before .before .before .before .before .before .args in
     let d = c .before .before .before .before .digits .ensures .0 in
     let q = c .before .before .before .digits2 .ensures .0 in
     rw (c .frames-room .ensures, c .before .entries-room .ensures, d, q, listing-length (a .processes) (a .edges) (a .conditions) (a .delay) (a .passed) (a .table .now) (a .frames .now))
@@ -50,12 +64,14 @@ pub exceeds-spec : {M : Type 1} → statement M
 exceeds-spec =
     tie.close
     (tie.spec
+    suffice-requires
+    returns
     digits-requires
     add-head
     digits-requires-2
     add-head-2
-    returns
+    returns-2
     add-entries-room
     entries-room-requires
     frames-room-requires
-    returns-2)
+    returns-3)

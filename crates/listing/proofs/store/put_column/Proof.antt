@@ -23,21 +23,29 @@ put-values-requires c κs =
     let a = c .before .before .before .before .before .before .before in
     fits-first (values-from (a .args .conditions) (a .args .known) (a .args .values) 0) _ (fits-rest (c .before .before .before .put-word .ensures) _ (a .pre))
 
-slice-aggregate-put-labelled : tie.Need-slice-aggregate-put-labelled
-slice-aggregate-put-labelled c = search needs
+slice-aggregate-put-word-2 : tie.Need-slice-aggregate-put-word-2
+slice-aggregate-put-word-2 c = search needs
 
-put-labelled-requires : tie.Need-put-labelled-requires
+put-word-requires-2 : tie.Need-put-word-requires-2
 unfolding column-of
-put-labelled-requires c κs =
+put-word-requires-2 c κs =
     let a = c .before .before .before .before .before .before .before .before .before .before .before .before in
-    fits-rest (c .before .before .before .before .put-values .ensures) _ (fits-rest (c .before .before .before .before .before .before .before .before .put-word .ensures) _ (a .pre))
+    fits-first (text ") (at ") _ (fits-rest (c .before .before .before .before .put-values .ensures) _ (fits-rest (c .before .before .before .before .before .before .before .before .put-word .ensures) _ (a .pre)))
+
+put-digits-requires : tie.Need-put-digits-requires
+unfolding column-of
+put-digits-requires c κs =
+    let a = c .before .before .before .before .before .before .before .before .before .before .before .before .before .before .before .before in
+    fits-rest (c .before .before .before .put-word2 .ensures) _ (fits-rest (c .before .before .before .before .before .before .before .before .put-values .ensures) _ (fits-rest (c .before .before .before .before .before .before .before .before .before .before .before .before .put-word .ensures) _ (a .pre)))
 
 same-length : tie.Need-same-length
 same-length c = search needs
 
 returns : tie.Need-returns
 unfolding column-of
-returns c = put-then (c .before .before .before .before .before .before .before .before .before .before .before .put-word .ensures) (put-then (c .before .before .before .before .before .before .before .put-values .ensures) (c .before .before .put-labelled .ensures))
+returns c =
+    put-then (c .before .before .before .before .before .before .before .before .before .before .before .before .before .before .before .put-word .ensures)
+    (put-then (c .before .before .before .before .before .before .before .before .before .before .before .put-values .ensures) (put-then (c .before .before .before .before .before .before .put-word2 .ensures) (c .before .before .put-digits .ensures)))
 
 pub put-column-spec : {M : Type 1} → statement M
 put-column-spec =
@@ -46,7 +54,8 @@ put-column-spec =
     slice-aggregate-put-word
     put-word-requires
     put-values-requires
-    slice-aggregate-put-labelled
-    put-labelled-requires
+    slice-aggregate-put-word-2
+    put-word-requires-2
+    put-digits-requires
     same-length
     returns)
