@@ -1,10 +1,10 @@
--- What the arrays say of a `when`: the row that makes it known, and whether a combination meets it.
+-- What the arrays say of an edge: whether it stays on its node, the row that makes its `when` known, and whether a combination meets it.
 -- Assumes nothing.
 use mathlib.Core.Path.{_≡_, refl, sym, ap, _∙_}
 use mathlib.Core.Logic.{_⊎_, inl, inr}
 use mathlib.Core.Bool.{Bool, true, false, not, Bool·beq}
 use mathlib.Core.List.{List}
-use Prim.Native.Nat.{ℕ, _+_, _/_, _%_, _^_}
+use Prim.Native.Nat.{ℕ, suc, _+_, _/_, _%_, _^_}
 use native.Mathlib.Omega.{arith}
 use lib.Dec.{eqb}
 use lib.ListN.{length, getD}
@@ -15,7 +15,7 @@ use Rattle.model.specs.Plan.{Lines, When, always, on}
 use Rattle.model.specs.Listing.{bit}
 use Rattle.plan.proofs.Links.{kind-of, condition-of}
 use Rattle.readiness.specs.Holding.{cue-row, met-in}
-use Rattle.board.specs.Layout.{differs, cue-of, unmet-of, value-of}
+use Rattle.board.specs.Layout.{differs, receiver-of, cue-of, unmet-of, value-of}
 
 -- two numbers differ, or not
 pub differs-same : (a b : ℕ) → eqb (differs a b) 0 ≡ eqb a b
@@ -24,6 +24,14 @@ differs-same a b = by (eqb a b)
     by : (t : Bool) → eqb (if t then 0 else 1) 0 ≡ t
     by true = refl
     by false = refl
+
+-- an edge has no node to be sent to just where it stays on its node
+pub receiver-same : (a b : ℕ) → eqb (receiver-of a b) 0 ≡ eqb a b
+receiver-same a b = by (eqb a b)
+  where
+    by : (t : Bool) → eqb (if t then 0 else suc b) 0 ≡ t
+    by true = refl
+    by false = ne-eqb (suc b) 0 (λ z. absurd (omega arith))
 
 pub cue-same : (p : Lines) (i : ℕ) (w : When) → cue-of (kind-of w) i (length (p .processes) + length (p .edges) + condition-of w) ≡ cue-row p i w
 unfolding kind-of condition-of

@@ -4,7 +4,7 @@ use mathlib.Core.Path.{_≡_, refl, sym, ap, _∙_, subst}
 use mathlib.Core.Logic.{_⊎_, inl, inr}
 use mathlib.Core.Bool.{Bool, true, false, not, _&&_}
 use mathlib.Core.List.{List, [], map, List·Memᴰ as In}
-use Prim.Native.Nat.{ℕ, _+_, _-_, _*_, _^_, _≤_, _<_}
+use Prim.Native.Nat.{ℕ, suc, _+_, _-_, _*_, _^_, _≤_, _<_}
 use native.Mathlib.Nat.{mul-le-mul}
 use native.Mathlib.Omega.{arith}
 use lib.Dec.{eqb, ltb}
@@ -38,13 +38,13 @@ use Rattle.orders.specs.Orders.{Ordered}
 use Rattle.timetable.specs.declared.Timetable.{Timetable}
 use Rattle.timetable.specs.Bus.{Timed}
 use Rattle.mask.proofs.Numbered.{combination-bit}
-use Rattle.board.specs.Layout.{differs, cue-of, several-of, unmet-of, value-of, unmet-by, process-of-row, senders-by-row, spans-by-row, sizes-by-row, several-by-process, cues-by-edge, remote-by-edge, numbers-below, places-below, board-of}
+use Rattle.board.specs.Layout.{receiver-of, cue-of, several-of, unmet-of, value-of, unmet-by, process-of-row, senders-by-row, spans-by-row, sizes-by-row, several-by-process, cues-by-edge, remote-by-edge, numbers-below, places-below, board-of}
 use Rattle.board.specs.Board.{Boarded}
 use Rattle.board.proofs.Bounds.{fill-each, fill-all, senders-small}
 use Rattle.board.proofs.Parts.{numbers-small, places-small, null-same, start-same, end-same, part-same}
 use Rattle.board.proofs.Lengths.{Long}
 use Rattle.board.proofs.Columns.{any-of, facts, few, process-any, no-process-at, no-edge-at, node-small, ticks-small, from-small, bytes-small, names-small, decider-same, decider-small}
-use Rattle.board.proofs.Combination.{differs-same, cue-same, met-same}
+use Rattle.board.proofs.Combination.{receiver-same, cue-same, met-same}
 
 not-not : (b : Bool) → not (not b) ≡ b
 not-not true = refl
@@ -67,6 +67,14 @@ cue-small kind from row l u = by (eqb kind 0)
     by : (b : Bool) → (if b then from else row) < 198
     by true = omega arith
     by false = u
+
+-- a node that receives is one of eight
+receiver-small : (a b : ℕ) → b < 8 → receiver-of a b ≤ 8
+receiver-small a b l = by (eqb a b)
+  where
+    by : (t : Bool) → (if t then 0 else suc b) ≤ 8
+    by true = omega arith
+    by false = l
 
 module _ (p : Plan) (h : plan-refusal (lines p) ≡ nothing) where
   -- the processes' and edges' rows, by the plan's counts
@@ -115,12 +123,27 @@ module _ (p : Plan) (h : plan-refusal (lines p) ≡ nothing) where
   locals =
       fill-each (λ e x. eqb x 0 ≡ local (lines p) e) 128 _ (p .edges) (few p h .edges)
       (λ e l.
-      (λ j. eqb (differs (node-of (edge-from p (few p h) e) j) (node-of (edge-to p (few p h) e) j)) 0)
-      ∙ differs-same (process (lines p) (edge (lines p) e .from) .node) (process (lines p) (edge (lines p) e .to) .node))
+      (λ j. eqb (receiver-of (node-of (edge-from p (few p h) e) j) (node-of (edge-to p (few p h) e) j)) 0)
+      ∙ receiver-same (process (lines p) (edge (lines p) e .from) .node) (process (lines p) (edge (lines p) e .to) .node))
       (λ e l.
       sym
       ((λ j. eqb (process (lines p) (no-edge-at p h e l j .from) .node) (process (lines p) (no-edge-at p h e l j .to) .node))
       ∙ eq-eqb (process (lines p) 0 .node) (process (lines p) 0 .node) refl))
+
+  receivers : (e : ℕ) → e < length (lines p .edges) → local (lines p) e ≡ false →
+      at (remote-by-edge (processes-table p .node) (edges-table p .from) (edges-table p .to) (p .edges)) e ≡ suc (unit (lines p) (edge (lines p) e .to))
+  unfolding remote-by-edge unit
+  receivers e l t =
+      fill-at 128 _ (p .edges) e (few p h .edges) (omega (arith, edges-length p))
+      ∙ (λ j. receiver-of (node-of (edge-from p (few p h) e) j) (node-of (edge-to p (few p h) e) j))
+      ∙ ap (λ (b : Bool). if b then 0 else suc (process (lines p) (edge (lines p) e .to) .node)) t
+
+  remote-most : (e : ℕ) → at (remote-by-edge (processes-table p .node) (edges-table p .from) (edges-table p .to) (p .edges)) e ≤ 8
+  unfolding remote-by-edge
+  remote-most =
+      fill-all (λ x. x ≤ 8) 128 _ (p .edges) (few p h .edges)
+      (λ e l. receiver-small (at (processes-table p .node) (at (edges-table p .from) e)) (at (processes-table p .node) (at (edges-table p .to) e)) (node-small p h (at (edges-table p .to) e)))
+      (omega arith)
 
   cues-small : (e : ℕ) → at (cues-by-edge (edges-table p .kind) (edges-table p .condition) (edges-table p .from) (p .edges) tell) e < 198
   unfolding cues-by-edge
@@ -299,6 +322,8 @@ module _ (p : Plan) (h : plan-refusal (lines p) ≡ nothing) where
                   conjunctions = conjunctions;
                   leading = leading;
                 };
+            receivers = receivers;
+            remote-most = remote-most;
             turns-of = turns-same;
             queue-of = queue-same;
             rounds = m .rounds;

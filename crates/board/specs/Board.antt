@@ -1,9 +1,9 @@
 -- What a board says of a plan: each of its numbers and arrays in the words of the model.
 -- Assumes nothing.
 use mathlib.Core.Path.{_≡_}
-use mathlib.Core.Bool.{not, _&&_}
+use mathlib.Core.Bool.{false, not, _&&_}
 use mathlib.Core.List.{[]}
-use Prim.Native.Nat.{ℕ, _+_, _^_, _≤_, _<_}
+use Prim.Native.Nat.{ℕ, suc, _+_, _^_, _≤_, _<_}
 use lib.Dec.{eqb}
 use lib.ListN.{length, getD}
 use Rattle.lists.specs.Lists.{keep}
@@ -33,6 +33,9 @@ pub record Boarded (p : Lines) (b : Board) : Type 0 where
   -- what readiness is read off, in each combination
   pub holds : (c : ℕ) → c < 2 ^ length (p .conditions) →
       Holds p (getD (combinations p) c []) (b .from) (b .cue) (unmet-by (b .kind) (b .condition) (b .edges) c) (b .remote) (b .several) (b .intofirst) (b .into)
+  -- the node that an edge between nodes is sent to
+  pub receivers : (e : ℕ) → e < length (p .edges) → local p e ≡ false → getD (b .remote) e 0 ≡ suc (unit p (edge p e .to))
+  pub remote-most : (e : ℕ) → getD (b .remote) e 0 ≤ 8
   -- the fixed orders, by node
   pub turns-of : (n : ℕ) → n < length (p .slots) →
       part (b .turn) (getD (b .turnfirst) n 0) (getD (b .turnfirst) (n + 1) 0) ≡ keep (λ i. eqb (unit p i) n) (turns p)

@@ -1,7 +1,7 @@
 -- The arrays of a board, worked out of a plan's tables, orders and timetable number by number.
 -- Assumes nothing.
 use mathlib.Core.List.{List}
-use Prim.Native.Nat.{ℕ, _+_, _-_, _/_, _%_, _^_, _≤_, _<_}
+use Prim.Native.Nat.{ℕ, suc, _+_, _-_, _/_, _%_, _^_, _≤_, _<_}
 use lib.Dec.{eqb, ltb}
 use Rattle.lists.specs.Lists.{if_then_else_, fill}
 use Rattle.plan.specs.declared.tables.ProcessTable.{ProcessTable}
@@ -18,6 +18,10 @@ if-below bound x = if ltb x bound then x else 0
 -- 1 where two numbers differ
 abbrev pub differs : ℕ → ℕ → ℕ
 differs a b = if eqb a b then 0 else 1
+
+-- one more than the node that receives, 0 where it is the node that sends
+abbrev pub receiver-of : ℕ → ℕ → ℕ
+receiver-of a b = if eqb a b then 0 else suc b
 
 -- the row that makes a `when` of this kind known: the sender's where it is always met, else that of its condition's broadcast
 abbrev pub cue-of : ℕ → ℕ → ℕ → ℕ
@@ -67,7 +71,7 @@ unfoldable pub cues-by-edge : List ℕ → List ℕ → List ℕ → ℕ → ℕ
 cues-by-edge kind condition from edges tell = fill 128 (λ k. cue-of (at kind k) (at from k) (tell + at condition k)) edges
 
 unfoldable pub remote-by-edge : List ℕ → List ℕ → List ℕ → ℕ → List ℕ
-remote-by-edge node from to edges = fill 128 (λ k. differs (at node (at from k)) (at node (at to k))) edges
+remote-by-edge node from to edges = fill 128 (λ k. receiver-of (at node (at from k)) (at node (at to k))) edges
 
 -- an array of an order whose numbers are below a bound, and one of its places
 unfoldable pub numbers-below : List ℕ → ℕ → List ℕ

@@ -14,7 +14,7 @@ ghost use Rattle.lists.specs.Lists.{fill};
 ghost use Rattle.model.specs.Refusals.{nothing, plan-refusal};
 ghost use Rattle.plan.specs.Memory.{lines};
 ghost use Rattle.plan.specs.Refusing.{at};
-ghost use Rattle.board.specs.Layout.{if-below, differs, cue-of, several-of, unmet-of, value-of, unmet-by, process-of-row, span-of-row, size-of-row, senders-by-row, spans-by-row, sizes-by-row, several-by-process, cues-by-edge, remote-by-edge, numbers-below, places-below, Small, board-of};
+ghost use Rattle.board.specs.Layout.{if-below, differs, cue-of, several-of, unmet-of, value-of, receiver-of, unmet-by, process-of-row, span-of-row, size-of-row, senders-by-row, spans-by-row, sizes-by-row, several-by-process, cues-by-edge, remote-by-edge, numbers-below, places-below, Small, board-of};
 ghost use Rattle.board.specs.Board.{Boarded};
 
 // A plan laid out for planning.
@@ -31,8 +31,8 @@ pub struct Board {
     pub node: [u32; 64],
     pub ticks: [u32; 64],
     pub several: [u32; 64],
-    // by edge: the process that sends, the row that makes its `when` known, 1 where it is between nodes, its bytes, the kind of its
-    // `when` (0 always, 1 true, 2 false) and the condition that it names
+    // by edge: the process that sends, the row that makes its `when` known, 0 where it stays on its node and else one more than the node
+    // that receives, its bytes, the kind of its `when` (0 always, 1 true, 2 false) and the condition that it names
     pub from: [u32; 128],
     pub cue: [u32; 128],
     pub remote: [u32; 128],
@@ -223,9 +223,20 @@ fn cues(e: EdgeTable, edges: usize, tell: u32) -> [u32; 128]
     cue
 }
 
-// Whether each edge is between nodes.
+// One more than the node that receives, or 0 where the node that sends is the same.
+fn receiver(sends: u32, receives: u32) -> u32
+    requires { ⌜ receives < 8 ⌝ }
+    ensures { λ r. ⌜ r ≡ receiver-of sends receives ⌝ }
+{
+    if sends == receives {
+        return 0;
+    }
+    receives + 1
+}
+
+// Which node receives each edge that is between nodes: one more than its number, and 0 for an edge that stays on its node.
 fn remotes(node: [u32; 64], e: EdgeTable, edges: usize) -> [u32; 128]
-    requires { ⌜ edges ≤ 128 ⌝ ∗ ⌜ ((k : ℕ) → at (e .from) k < 64) ⌝ ∗ ⌜ ((k : ℕ) → at (e .to) k < 64) ⌝ }
+    requires { ⌜ edges ≤ 128 ⌝ ∗ ⌜ ((k : ℕ) → at (e .from) k < 64) ⌝ ∗ ⌜ ((k : ℕ) → at (e .to) k < 64) ⌝ ∗ ⌜ ((i : ℕ) → at node i < 8) ⌝ }
     ensures { λ r. ⌜ r ≡ remote-by-edge node (e .from) (e .to) edges ⌝ }
 {
     let mut remote = no_numbers();
@@ -233,7 +244,7 @@ fn remotes(node: [u32; 64], e: EdgeTable, edges: usize) -> [u32; 128]
     while k < edges {
         let i = wide(e.from[k]);
         let j = wide(e.to[k]);
-        remote[k] = differ(node[i], node[j]);
+        remote[k] = receiver(node[i], node[j]);
         k += 1;
     }
     remote

@@ -1,5 +1,4 @@
--- What the loops of the code rest on: numbers stored one by one, the first number below n that passes a test, the slot of a node that is nearer, what a
--- slot leaves of the bus, and what one event leaves of all.
+-- What the loops of the code rest on: numbers stored one by one, the slot of a node that is nearer, what a slot leaves of the bus, and what one event leaves of all.
 -- Assumes nothing.
 use Prim.Native.Nat.{ℕ, zero, suc, _+_, _-_, _%_, _≤_, _<_}
 use mathlib.Core.Path.{_≡_, refl, sym, ap, _∙_, subst}
@@ -11,14 +10,14 @@ use lib.Dec.{eqb, leb}
 use lib.ListN.{length, getD, set, replicate, drop, drop-of-length-le, length-set}
 use lib.Seq.{sets}
 use borrow.Author.Tests.{le-leb, lt-leb, leb-true}
-use Rattle.lists.specs.Lists.{if_then_else_, below, upfrom}
-use Rattle.lists.proofs.Loops.{upfrom-start, upfrom-next, upfrom-end}
+use Rattle.lists.specs.Lists.{if_then_else_}
 use Rattle.lists.proofs.Parts.{drop-one}
 use Rattle.timetable.specs.Bus.{beginning-at}
 use Rattle.packing.specs.Packing.{Load, load}
 use Rattle.board.specs.declared.Board.{Board}
-use Rattle.course.specs.Course.{last-event, Moment, Bus, bus, first-or, begins-by, slot-at-by, filled, fill-by, serve-by, come-by, next-slot, nearer-by, event-by, hears, begins-with, serves, waiting, notes, moves, next, Leads, over, on, Ended, from-clock, Fits, board-of}
-use Rattle.course.proofs.Ahead.{come-after, event-after, First, found, missing, first-below}
+use Rattle.course.specs.Course.{last-event, Moment, Bus, bus, slot-at-by, filled, fill-by, serve-by, come-by, next-slot, nearer-by, event-by, hears, begins-with, serves, waiting, notes, moves, next, Leads, over, on, Ended, from-clock, Fits, board-of}
+use Rattle.course.specs.Kept.{Begins}
+use Rattle.course.proofs.Ahead.{come-after, event-after}
 
 -- a choice whose test is known
 pub when : {A : Type 0} {b : Bool} (x y : A) → b ≡ true → x ≡ (if b then x else y)
@@ -38,35 +37,6 @@ stores-next xs at r all l e =
 
 pub stores-end : (xs : List ℕ) (at r : ℕ) (all : List ℕ) {whole : List ℕ} → length xs ≤ r → sets all (at + r) (drop r xs) ≡ whole → all ≡ whole
 stores-end xs at r all l e = ap (sets all (at + r)) (sym (drop-of-length-le xs {i = r} l)) ∙ e
-
--- the first number from n on that passes a test is the first of all
-module _ (slots : ℕ) (f : ℕ → Bool) where
-  abbrev pub First-from : ℕ → Type 0
-  First-from n = first-or slots f (below slots) ≡ first-or slots f (upfrom n (slots - n))
-
-  pub first-start : First-from 0
-  first-start = ap (first-or slots f) (upfrom-start slots)
-
-  pub first-next : (n : ℕ) → n < slots → f n ≡ false → First-from n → First-from (n + 1)
-  unfolding first-or
-  first-next n l e h = h ∙ ap (first-or slots f) (upfrom-next slots n l) ∙ rw e
-
-  pub first-found : (n : ℕ) → n < slots → f n ≡ true → First-from n → n ≡ first-or slots f (below slots)
-  unfolding first-or
-  first-found n l e h = sym (h ∙ ap (first-or slots f) (upfrom-next slots n l) ∙ rw e)
-
-  pub first-none : (n : ℕ) → slots ≤ n → First-from n → slots ≡ first-or slots f (below slots)
-  unfolding first-or
-  first-none n l h = sym (h ∙ ap (first-or slots f) (upfrom-end slots n l))
-
--- where some slot begins, it is one of the slots
-pub slot-below : (round : ℕ) (offset : List ℕ) (tick slots : ℕ) → (slot-at-by round offset tick slots ≡ slots → ⊥) → slot-at-by round offset tick slots < slots
-unfolding slot-at-by
-slot-below round offset tick slots n = at (first-below slots (begins-by round offset tick))
-  where
-    at : First slots (begins-by round offset tick) → slot-at-by round offset tick slots < slots
-    at (found k l e q) = omega (arith, l, q)
-    at (missing h q) = absurd (n q)
 
 -- the next beginning of a slot, by cases
 module _ (pending : ℕ → Bool) (round : ℕ) (offset : List ℕ) (u n least : ℕ) where
@@ -115,7 +85,7 @@ filled-long n end l t s = at (l .short)
     at false = refl
 
 -- the first beginning of a slot at or after a tick is not before it
-beginning-from : (round offset t : ℕ) → 1 ≤ round → t ≤ beginning-at round offset t
+pub beginning-from : (round offset t : ℕ) → 1 ≤ round → t ≤ beginning-at round offset t
 unfolding beginning-at
 beginning-from round offset t l = at (leb (t % round) offset) refl
   where
@@ -246,7 +216,25 @@ module _ (b : Board) (unmet : List ℕ) where
         round-one = f .round-one;
         round-most = f .round-most;
         offset-most = f .offset-most;
+        offset-less = f .offset-less;
+        ticks-one = f .ticks-one;
+        lasts-one = f .lasts-one;
+        rows-before = f .rows-before;
+        deciders-low = f .deciders-low;
+        turn-own = f .turn-own;
+        queue-own = f .queue-own;
+        into-own = f .into-own;
+        remote-most = f .remote-most;
+        remote-row = f .remote-row;
+        cues-known = f .cues-known;
+        one-begins = f .one-begins;
+        slots-apart = f .slots-apart;
       }
+
+  pub begins-read : (start : ℕ) (busy comes : List ℕ) → Begins b unmet start busy comes → Begins read unmet start busy comes
+  unfolding board-of
+  begins-read start busy comes s =
+      record { told-apart = s .told-apart; ends-most = s .ends-most; ends-last = s .ends-last; items-past = s .items-past; busy-long = s .busy-long }
 
   leads-read : (m e : Moment) → Leads read unmet m e → Leads b unmet m e
   unfolding board-of next hears begins-with serves waiting notes moves

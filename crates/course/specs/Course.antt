@@ -3,13 +3,14 @@
 -- Assumes nothing.
 use Prim.Native.Nat.{ℕ, zero, suc, _+_, _-_, _*_, _≤_, _<_}
 use mathlib.Core.Path.{_≡_}
-use mathlib.Core.Bool.{Bool}
-use mathlib.Core.List.{List, [], _∷_, map}
+use mathlib.Core.Logic.{_⊎_}
+use mathlib.Core.Bool.{Bool, true}
+use mathlib.Core.List.{List, [], _∷_, map, List·Memᴰ as In}
 use lib.Dec.{eqb, leb, ltb}
 use lib.ListN.{getD, set, replicate}
 use lib.Seq.{sets}
 use Rattle.lists.specs.Lists.{if_then_else_, below, greatest}
-use Rattle.readiness.specs.Reading.{may-run-by, Within}
+use Rattle.readiness.specs.Reading.{part, edges-into, may-run-by, Within}
 use Rattle.timetable.specs.Bus.{beginning-at}
 use Rattle.starting.specs.Starting.{Ends, starts-by}
 use Rattle.packing.specs.Packing.{Load, pending-by, send-by, told-by}
@@ -194,7 +195,7 @@ unfoldable pub from-clock : ℕ → ℕ → List ℕ → List ℕ → List ℕ �
 from-clock u flight busy comes place passed noted =
     record { u = u; come = u; flight = flight; told = u; run = replicate 64 0; busy = busy; comes = comes; place = place; passed = passed; noted = noted }
 
--- what the arrays index and how large their numbers are
+-- what the arrays index, how large their numbers are, what they say of each other, and how the slots lie
 pub record Fits (b : Board) : Type 0 where
   pub few-processes : b .processes ≤ 64
   pub few-rows : b .tell ≤ 192
@@ -212,6 +213,23 @@ pub record Fits (b : Board) : Type 0 where
   pub round-one : 1 ≤ b .round
   pub round-most : b .round ≤ 512000
   pub offset-most : (n : ℕ) → n < b .slots → getD (b .offset) n 0 ≤ b .round
+  pub offset-less : (n : ℕ) → n < b .slots → getD (b .offset) n 0 < b .round
+  pub ticks-one : (i : ℕ) → i < b .processes → 1 ≤ getD (b .ticks) i 0
+  pub lasts-one : (n : ℕ) → n < b .slots → 1 ≤ getD (b .lasts) n 0
+  pub rows-before : b .processes ≤ b .tell
+  pub deciders-low : (k : ℕ) → k < b .conditions → getD (b .decider) k 0 < b .processes
+  -- what stands in the turn of a node, in its queue and before a process; what makes a `when` known
+  pub turn-own : (n j : ℕ) → n < b .slots → getD (b .turnfirst) n 0 ≤ j → j < getD (b .turnfirst) (n + 1) 0 → (getD (b .turn) j 0 < b .processes) × (getD (b .node) (getD (b .turn) j 0) 0 ≡ n)
+  pub queue-own : (n e : ℕ) → n < b .slots → In e (part (b .queue) (getD (b .queuefirst) n 0) (getD (b .queuefirst) (n + 1) 0)) →
+      (getD (b .from) e 0 < b .processes) × (getD (b .node) (getD (b .from) e 0) 0 ≡ n) × (1 ≤ getD (b .remote) e 0)
+  pub into-own : (i e : ℕ) → i < b .processes → In e (edges-into (b .intofirst) (b .into) i) →
+      (getD (b .from) e 0 < b .processes) × (getD (b .remote) e 0 ≡ 0 → getD (b .node) (getD (b .from) e 0) 0 ≡ getD (b .node) i 0) × ((n : ℕ) → getD (b .remote) e 0 ≡ suc n → getD (b .node) i 0 ≡ n)
+  pub remote-most : (e : ℕ) → getD (b .remote) e 0 ≤ 8
+  pub remote-row : (e : ℕ) → 1 ≤ getD (b .remote) e 0 → b .processes + e < b .tell
+  pub cues-known : (e : ℕ) → (getD (b .cue) e 0 ≡ getD (b .from) e 0) ⊎ ((k : ℕ) × (k < b .conditions) × (getD (b .cue) e 0 ≡ b .tell + k))
+  -- slots do not lie on each other
+  pub one-begins : (n k t : ℕ) → n < b .slots → k < b .slots → begins-by (b .round) (b .offset) t n ≡ true → begins-by (b .round) (b .offset) t k ≡ true → n ≡ k
+  pub slots-apart : (n k t w : ℕ) → n < b .slots → k < b .slots → begins-by (b .round) (b .offset) t n ≡ true → begins-by (b .round) (b .offset) w k ≡ true → t < w → t + getD (b .lasts) n 0 ≤ w
 
 -- a board of the numbers and arrays that planning reads; the others are left out
 unfoldable pub board-of : (processes tell conditions slots : ℕ) (node ticks several from cue remote bytes decider intofirst into turnfirst turn queuefirst queue : List ℕ) (round : ℕ) (offset lasts rooms : List ℕ) → Board

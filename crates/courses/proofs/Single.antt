@@ -1,8 +1,7 @@
--- The plan of one combination: a board of a plan can be planned on, and where a run of events leads from a clock at which the arrays hold what is placed
+-- The plan of one combination: where a run of events leads from a clock at which the arrays hold what is placed
 -- before it is the combination's plan.
 -- Assumes nothing.
 use mathlib.Core.Path.{_≡_, refl, sym, ap, _∙_, subst}
-use mathlib.Core.Logic.{_⊎_, inl, inr}
 use mathlib.Core.Bool.{Bool, true, false}
 use mathlib.Core.List.{List, [], _∷_, map, List·Memᴰ as In, List·Memᴰ·head as here}
 use Prim.Native.Nat.{ℕ, zero, suc, _+_, _-_, _*_, _^_, _≤_, _<_}
@@ -11,7 +10,7 @@ use lib.Dec.{eqb}
 use lib.ListN.{length, getD, replicate, length-append, length-map}
 use Rattle.lists.specs.Lists.{if_then_else_, keep, below, greatest}
 use Rattle.lists.proofs.Parts.{keep-short}
-use Rattle.model.specs.Plan.{Lines, Slot, unit}
+use Rattle.model.specs.Plan.{Lines, Slot}
 use Rattle.model.specs.Bus.{condition-row, beginning}
 use Rattle.model.specs.Planning.{View, passes-over, step, before, bound, planned}
 use Rattle.model.specs.Refusals.{nothing, plan-refusal}
@@ -23,35 +22,12 @@ use Rattle.readiness.specs.Holding.{Holds, Held}
 use Rattle.board.specs.declared.Board.{Board}
 use Rattle.board.specs.Layout.{unmet-by}
 use Rattle.board.specs.Board.{Boarded}
-use Rattle.course.specs.Course.{Moment, Ended, from-clock, Fits}
+use Rattle.course.specs.Course.{Moment, Ended, from-clock}
 use Rattle.course.proofs.Planned.{first-at, Plans, leads-planned, delay-planned}
 use Rattle.entries.specs.Logs.{numbered}
 use Rattle.courses.specs.Courses.{log-of, delay-of, passes-by, passes-of, Ready, Kept, Stored}
 use Rattle.courses.proofs.Adding.{added-at, added-long}
 use Rattle.courses.proofs.Sources.{width}
-
--- the arrays of a board index each other, and their numbers are small
-pub fits : (p : Lines) (b : Board) → Boarded p b → Fits b
-fits p b o =
-    let s : b .slots ≡ length (p .slots) = o .slots-count in
-    record {
-      few-processes = o .few-processes;
-      few-rows = omega (arith, o .tell-row, o .few-processes, o .few-edges);
-      few-conditions = o .few-conditions;
-      few-slots = o .few-slots;
-      within-into = o .within;
-      within-queue = record { senders = o .within .senders; cues = o .within .cues; edges = o .queue-members };
-      into-firsts = o .into-firsts;
-      turn-firsts = o .turn-firsts;
-      queue-firsts = o .queue-firsts;
-      turn-members = o .turn-members;
-      deciders = o .decider-small;
-      ticks-small = o .ticks-most;
-      lasts-small = λ n l. o .lasts-most n (omega arith);
-      round-one = o .round-one;
-      round-most = o .round-most;
-      offset-most = λ n l. o .offset-most n (omega arith);
-    }
 
 -- where planning of a combination stands at a clock, the clock is 1 or more and there are eight counts
 pub ready-start : (p : Lines) (c start : ℕ) (ends rows places counts noted : List ℕ) → Ready p c start ends rows places counts noted → 1 ≤ start
@@ -61,22 +37,6 @@ ready-start p c start ends rows places counts noted r = omega (arith, r .at-tick
 pub ready-long : (p : Lines) (c start : ℕ) (ends rows places counts noted : List ℕ) → Ready p c start ends rows places counts noted → length counts ≡ 8
 unfolding from-clock
 ready-long p c start ends rows places counts noted r = r .at-tick .passed-long
-
--- no process ends after its node's last end, and no other row is over after the clock
-pub ready-ends : (p : Lines) (b : Board) (o : Boarded p b) (c start : ℕ) (ends rows places counts noted : List ℕ) → Ready p c start ends rows places counts noted → (i : ℕ) → i < b .processes →
-    getD rows i 0 ≤ getD ends (getD (b .node) i 0) 0
-unfolding from-clock unit
-ready-ends p b o c start ends rows places counts noted r i l =
-    let z : getD rows i 0 ≤ getD ends (unit p i) 0 = r .at-tick .ends .most i (omega (arith, o .processes-count)) in
-    subst (λ (n : ℕ). getD rows i 0 ≤ getD ends n 0) (sym (o .nodes i)) z
-
-pub ready-arrived : (p : Lines) (b : Board) (o : Boarded p b) (c start : ℕ) (ends rows places counts noted : List ℕ) → Ready p c start ends rows places counts noted → (r : ℕ) → b .processes ≤ r → getD rows r 0 ≤ start
-unfolding from-clock
-ready-arrived p b o c start ends rows places counts noted s r l = at (s .at-tick .flying r (omega (arith, o .processes-count)))
-  where
-    at : (getD rows r 0 ≤ suc (s .tick)) ⊎ (getD rows r 0 ≡ 0) → getD rows r 0 ≤ start
-    at (inl z) = omega (arith, z, s .at-tick .clock)
-    at (inr z) = omega (arith, z)
 
 -- from the beginning
 pub ready-first : (p : Lines) (c : ℕ) (ends rows places counts noted : List ℕ) → ends ≡ replicate 8 0 → rows ≡ replicate 198 0 → places ≡ replicate 198 0 → counts ≡ replicate 8 0 → noted ≡ replicate 48 0 →

@@ -1,5 +1,5 @@
 -- The rows that are due in one combination, and whether each is met as often as it is due, in the words of arrays. By process: `run` has 1
--- where it is active. By edge: `from` has the sender, `unmet` 1 where the combination does not meet the `when`, `remote` 1 where the edge is
+-- where it is active. By edge: `from` has the sender, `unmet` 1 where the combination does not meet the `when`, `remote` not 0 where it is
 -- between nodes. By condition: `decider` has the process that decides it. `tell` is the row of condition 0.
 -- Assumes nothing.
 use Prim.Native.Nat.{ℕ, _-_}

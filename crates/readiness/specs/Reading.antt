@@ -1,6 +1,6 @@
 -- What a log of one combination in memory says, in the words of the arrays that hold it. `comes`, by row, has 0 where the row is not placed,
 -- else the tick by which it is over, plus 1; the clock `u` is the tick plus 1. By edge: `from` has the sender's row, `cue` the row that makes
--- the `when` known, `unmet` 1 where the combination does not meet the `when`, `remote` 1 where the edge is between nodes. By process: `several`
+-- the `when` known, `unmet` 1 where the combination does not meet the `when`, `remote` not 0 where the edge is between nodes. By process: `several`
 -- has 1 where it counts as `any`, `run` 1 where it may run; the edges into process i are those of `into` from place first[i] to first[i + 1].
 -- Assumes nothing.
 use Prim.Native.Nat.{ℕ, zero, suc, _+_, _-_, _<_}

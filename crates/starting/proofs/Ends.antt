@@ -1,5 +1,4 @@
--- Arrays that hold where the nodes' last processes end: before anything has started, at a later clock, with the same numbers, and after the start
--- of a process.
+-- Arrays that hold where the nodes' last processes end: before anything has started, at a later clock, and after the start of a process.
 -- Assumes nothing.
 use mathlib.Core.Path.{_≡_, sym, ap, _∙_, fun-ext}
 use mathlib.Core.Logic.{_⊎_, inl, inr}
@@ -20,32 +19,6 @@ use Rattle.starting.specs.Busy.{Busy}
 -- a number stored, and another place
 pub set-there : (xs : List ℕ) (n m v : ℕ) → n < length xs → m ≡ n → getD (set xs n v) m 0 ≡ v
 set-there xs n m v l q = ap (λ (k : ℕ). getD (set xs n v) k 0) q ∙ getD-set-same xs n v 0 l
-
-pub set-own : (xs : List ℕ) (n m : ℕ) → n < length xs → getD (set xs n (getD xs n 0)) m 0 ≡ getD xs m 0
-set-own xs n m l = at (two (eqb m n))
-  where
-    at : (eqb m n ≡ true) ⊎ (eqb m n ≡ false) → getD (set xs n (getD xs n 0)) m 0 ≡ getD xs m 0
-    at (inl e) = let q : m ≡ n = eqb-true m n e in set-there xs n m (getD xs n 0) l q ∙ ap (λ (k : ℕ). getD xs k 0) (sym q)
-    at (inr e) = getD-set-other xs n m (getD xs n 0) 0 (eqb-false m n e)
-
--- arrays by node with the same numbers
-pub busy-same : (p : Lines) (comes busy busy′ : List ℕ) (u : ℕ) → length busy′ ≡ 8 → ((m : ℕ) → getD busy′ m 0 ≡ getD busy m 0) → Busy p comes busy u → Busy p comes busy′ u
-busy-same p comes busy busy′ u l q b =
-    record {
-      most = λ i k. omega (arith, b .most i k, q (unit p i));
-      last = λ i k. last-at i (b .last i k);
-      some = λ n k. some-at n (b .some n k);
-      long = l;
-    }
-  where
-    last-at : (i : ℕ) → (getD comes i 0 ≤ u) ⊎ (getD comes i 0 ≡ getD busy (unit p i) 0) → (getD comes i 0 ≤ u) ⊎ (getD comes i 0 ≡ getD busy′ (unit p i) 0)
-    last-at i (inl e) = inl e
-    last-at i (inr e) = inr (e ∙ sym (q (unit p i)))
-
-    some-at : (n : ℕ) → (getD busy n 0 ≡ 0) ⊎ ((i : ℕ) × (i < length (p .processes)) × (unit p i ≡ n) × (getD comes i 0 ≡ getD busy n 0)) →
-        (getD busy′ n 0 ≡ 0) ⊎ ((i : ℕ) × (i < length (p .processes)) × (unit p i ≡ n) × (getD comes i 0 ≡ getD busy′ n 0))
-    some-at n (inl e) = inl (q n ∙ e)
-    some-at n (inr e) = inr (e .0, e .1, e .2, e .3 ∙ sym (q n))
 
 -- before anything has started, at a later clock, and where only the rows of items have changed
 pub busy-none : (p : Lines) (u : ℕ) → Busy p (replicate 198 0) (replicate 8 0) u

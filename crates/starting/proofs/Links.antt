@@ -8,9 +8,9 @@ use mathlib.Core.List.{List, [], _∷_, _++_, map, List·Memᴰ as In}
 use Prim.Native.Nat.{ℕ, zero, suc, _+_, _≤_, _<_}
 use native.Mathlib.Omega.{arith}
 use lib.Dec.{eqb, leb}
-use lib.ListN.{length, getD, set, length-set}
+use lib.ListN.{length, getD, set}
 use lib.Seq.{getD-set-other}
-use borrow.Author.Tests.{eqb-true, ne-eqb, leb-true, le-leb}
+use borrow.Author.Tests.{eqb-true, leb-true, le-leb}
 use Rattle.lists.specs.Lists.{keep, first}
 use Rattle.lists.proofs.Tests.{two, both, join, same-test, is-not}
 use Rattle.model.specs.Plan.{Lines, process, unit}
@@ -24,11 +24,12 @@ use Rattle.readiness.specs.Reading.{came-by, placed-by}
 use Rattle.readiness.specs.Holding.{Holds, Held, Runs}
 use Rattle.readiness.proofs.Links.{ready-link, view-link}
 use Rattle.readiness.proofs.Held.{held-same, held-start, held-logged}
-use Rattle.starting.specs.Starting.{Ends, first-of, end-after, rows-after, can-start, choice, start-by, starts-by}
+use Rattle.starting.specs.Starting.{Ends, first-of, can-start, choice, start-by, starts-by}
 use Rattle.starting.specs.Busy.{Busy, Turns}
 use Rattle.starting.proofs.Found.{Found, none, one, found}
 use Rattle.starting.proofs.Rows.{turn-in, upto, same-rows}
-use Rattle.starting.proofs.Ends.{set-own, busy-same, came-start, busy-start}
+use Rattle.starting.proofs.Ends.{came-start, busy-start}
+use Rattle.starting.proofs.Steps.{step-busy, step-none, step-one}
 
 -- what the arrays hold after the starts of a tick
 pub record After (p : Lines) (v : View) (log : Log) (t : ℕ) (comes place : List ℕ) (s : Ends) : Type 0 where
@@ -125,16 +126,15 @@ module _ (p : Lines) (g : Good p) (c : List Bool) (from cue unmet remote several
     chosen-same = ap (first-of (can (s .comes))) (o n l)
 
     -- nothing is started
-    quiet : (busy′ : List ℕ) → unit-starts p now t n ≡ [] → length busy′ ≡ 8 → ((m : ℕ) → getD busy′ m 0 ≡ getD (s .busy) m 0) →
-        So-far (suc n) (record { busy = busy′; comes = s .comes })
-    quiet busy′ e len q =
+    quiet : unit-starts p now t n ≡ [] → So-far (suc n) s
+    quiet e =
         record {
           logged = subst (λ (x : Log). Held p (x ++ upto p now t log n) (s .comes) place) (sym e) (z .logged);
-          ends = busy-same p (s .comes) (s .busy) busy′ (suc t) len q (z .ends);
+          ends = z .ends;
           came = z .came;
           items = z .items;
           later-rows = λ i m r. z .later-rows i m (omega arith);
-          later-nodes = λ m r. q m ∙ z .later-nodes m (omega arith);
+          later-nodes = λ m r. z .later-nodes m (omega arith);
         }
 
     -- process i is started
@@ -157,26 +157,6 @@ module _ (p : Lines) (g : Good p) (c : List Bool) (from cue unmet remote several
           later-nodes = λ j r. getD-set-other (s .busy) n j end 0 (λ w. absurd (omega arith)) ∙ z .later-nodes j (omega arith);
         }
 
-    step-busy : leb (getD (s .busy) n 0) (suc t) ≡ false → step n s ≡ s
-    unfolding start-by
-    step-busy e = rw e
-
-    step-free : (x : ℕ) → leb (getD (s .busy) n 0) (suc t) ≡ true → chosen ≡ x →
-        step n s ≡ record { busy = set (s .busy) n (end-after x (suc t) ticks (getD (s .busy) n 0)); comes = rows-after x (suc t) ticks (s .comes) }
-    unfolding start-by
-    step-free x e q =
-        rw e (λ j. record { busy = set (s .busy) n (end-after (q j) (suc t) ticks (getD (s .busy) n 0)); comes = rows-after (q j) (suc t) ticks (s .comes) })
-
-    step-none : leb (getD (s .busy) n 0) (suc t) ≡ true → chosen ≡ 64 →
-        step n s ≡ record { busy = set (s .busy) n (getD (s .busy) n 0); comes = s .comes }
-    unfolding end-after rows-after
-    step-none e q = step-free 64 e q
-
-    step-one : (i : ℕ) → leb (getD (s .busy) n 0) (suc t) ≡ true → chosen ≡ i → i < 64 →
-        step n s ≡ record { busy = set (s .busy) n (suc t + getD ticks i 0); comes = set (s .comes) i (suc t + getD ticks i 0) }
-    unfolding end-after rows-after
-    step-one i e q r = step-free i e q ∙ rw (ne-eqb i 64 (λ w. absurd (omega arith)))
-
     starts-none : free p now n ≡ false → unit-starts p now t n ≡ []
     unfolding unit-starts
     starts-none f = rw f
@@ -193,24 +173,20 @@ module _ (p : Lines) (g : Good p) (c : List Bool) (from cue unmet remote several
         let d = both (eqb (unit p i) n) (not (not (eqb (getD comes i 0) 0))) (a .0) in
         (eqb-true (unit p i) n (d .0), eqb-true (getD comes i 0) 0 (sym (not-not _) ∙ d .1))
 
-    node-low : n < length (s .busy)
-    node-low = omega (arith, z .ends .long, g .few-slots)
-
     with-first : free p now n ≡ true → leb (getD (s .busy) n 0) (suc t) ≡ true → Found (λ i. eqb (unit p i) n) (can (s .comes)) (candidate p now n) (turns p) →
         So-far (suc n) (step n s)
     with-first f e (none a q) =
-        subst (So-far (suc n)) (sym (step-none e (chosen-same ∙ q)))
-        (quiet (set (s .busy) n (getD (s .busy) n 0)) (starts-first f [] a) (length-set (s .busy) n (getD (s .busy) n 0) ∙ z .ends .long) (λ m. set-own (s .busy) n m node-low))
+        subst (So-far (suc n)) (sym (step-none (length (p .processes)) remote from cue unmet run several intofirst into (suc t) turnfirst turn ticks n s e (chosen-same ∙ q))) (quiet (starts-first f [] a))
     with-first f e (one i m y a q) =
         let j : i < length (p .processes) = turn-in p m in
         let w = is-candidate i y in
-        subst (So-far (suc n)) (sym (step-one i e (chosen-same ∙ q) (omega (arith, g .few-processes))))
+        subst (So-far (suc n)) (sym (step-one (length (p .processes)) remote from cue unmet run several intofirst into (suc t) turnfirst turn ticks n s i e (chosen-same ∙ q) (omega (arith, g .few-processes))))
         (begun i j (w .0) (z .later-rows i j (omega (arith, w .0)) ∙ w .1) (leb-true (getD (s .busy) n 0) (suc t) e) (starts-first f (i ∷ []) a))
 
     next : (free p now n ≡ true) ⊎ (free p now n ≡ false) → So-far (suc n) (step n s)
     next (inl f) = with-first f (free-now ∙ f) first-found
     next (inr f) =
-        subst (So-far (suc n)) (sym (step-busy (free-now ∙ f))) (quiet (s .busy) (starts-none f) (z .ends .long) (λ m. refl))
+        subst (So-far (suc n)) (sym (step-busy (length (p .processes)) remote from cue unmet run several intofirst into (suc t) turnfirst turn ticks n s (free-now ∙ f))) (quiet (starts-none f))
 
   abbrev after : ℕ → Ends
   after n = starts-by (length (p .processes)) remote from cue unmet run several intofirst into (suc t) turnfirst turn ticks n (record { busy = busy; comes = comes })

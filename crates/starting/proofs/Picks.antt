@@ -1,12 +1,16 @@
--- The first process of a part of an array that passes a test: over the part's first number, and where the part has come to its end.
+-- The first process of a part of an array that passes a test: over the part's first number, where the part has come to its end, and what the
+-- first says of the numbers that stand in the part.
 -- Assumes nothing.
-use mathlib.Core.Path.{_≡_, ap, _∙_}
+use mathlib.Core.Path.{_≡_, refl, sym, ap, _∙_, subst}
+use mathlib.Core.Logic.{_⊎_, inl, inr}
 use mathlib.Core.Bool.{Bool, true, false}
-use mathlib.Core.List.{List, _∷_, map}
+use mathlib.Core.List.{List, [], _∷_, map, List·Memᴰ as In, List·Memᴰ·head as here, List·Memᴰ·tail as there, List·Memᴰ·not-nil as in-none}
 use Prim.Native.Nat.{ℕ, zero, suc, _+_, _-_, _≤_, _<_}
 use native.Mathlib.Omega.{arith}
 use lib.ListN.{getD}
 use Rattle.lists.specs.Lists.{if_then_else_, upfrom}
+use Rattle.lists.proofs.Tests.{two}
+use Rattle.lists.proofs.Members.{in-upfrom, upfrom-in, in-map, map-in}
 use Rattle.lists.proofs.Loops.{upfrom-next, upfrom-end}
 use Rattle.readiness.specs.Reading.{part}
 use Rattle.starting.specs.Starting.{first-of}
@@ -40,3 +44,42 @@ first-low xs a b f h = go a (b - a)
     go : (a n : ℕ) → first-of f (map (λ j. getD xs j 0) (upfrom a n)) ≤ 64
     go a zero = omega arith
     go a (suc n) = one (f (getD xs a 0)) (getD xs a 0) _ (h a) (go (suc a) n)
+
+-- the numbers from place a to before place b are the members of the part
+module _ (xs : List ℕ) (a b : ℕ) where
+  pub in-part : (j : ℕ) → a ≤ j → j < b → In (getD xs j 0) (part xs a b)
+  unfolding part
+  in-part j l u = in-map (λ j. getD xs j 0) (in-upfrom a (b - a) j l (omega arith))
+
+  pub part-in : {x : ℕ} → In x (part xs a b) → (j : ℕ) × (a ≤ j) × (j < b) × (x ≡ getD xs j 0)
+  unfolding part
+  part-in m =
+      let r = map-in (λ j. getD xs j 0) (upfrom a (b - a)) m in
+      let u = upfrom-in a (b - a) (r .1) in
+      (r .0, u .0, omega (arith, u .0, u .1), r .2)
+
+-- no number passes, or the first that passes stands there
+pub first-none : (f : ℕ → Bool) (xs : List ℕ) → ((x : ℕ) → In x xs → f x ≡ false) → first-of f xs ≡ 64
+unfolding first-of
+first-none f [] h = refl
+first-none f (x ∷ xs) h = ap (λ (b : Bool). if b then x else first-of f xs) (h x (here refl)) ∙ first-none f xs (λ y m. h y (there m))
+
+pub data First (f : ℕ → Bool) (xs : List ℕ) : Type 0 where
+  no-first : ((x : ℕ) → In x xs → f x ≡ false) → First f xs
+  a-first : In (first-of f xs) xs → f (first-of f xs) ≡ true → First f xs
+
+pub the-first : (f : ℕ → Bool) (xs : List ℕ) → First f xs
+unfolding first-of
+the-first f [] = no-first (λ x m. absurd (in-none m))
+the-first f (x ∷ xs) = by (two (f x)) (the-first f xs)
+  where
+    by : (f x ≡ true) ⊎ (f x ≡ false) → First f xs → First f (x ∷ xs)
+    by (inl e) r = a-first (here (ap (λ (b : Bool). if b then x else first-of f xs) e)) (ap f (ap (λ (b : Bool). if b then x else first-of f xs) e) ∙ e)
+    by (inr e) (no-first h) = no-first (λ y m. later y m)
+      where
+        later : (y : ℕ) → In y (x ∷ xs) → f y ≡ false
+        later y (here q) = ap f q ∙ e
+        later y (there m) = h y m
+    by (inr e) (a-first m y) =
+        let q : first-of f (x ∷ xs) ≡ first-of f xs = ap (λ (b : Bool). if b then x else first-of f xs) e in
+        a-first (subst (λ (z : ℕ). In z (x ∷ xs)) (sym q) (there m)) (ap f q ∙ y)

@@ -2,10 +2,12 @@
 // specs/Starting.antt says what the arrays hold.
 use readiness::ready;
 ghost use mathlib.Core.Path.{_≡_};
+ghost use mathlib.Core.Bool.{false};
 ghost use Prim.Native.Nat.{ℕ, _+_, _<_, _≤_};
 ghost use lib.ListN.{getD};
 ghost use Rattle.readiness.specs.Reading.{part, Within};
 ghost use Rattle.starting.specs.Starting.{can-start, first-of, end-after, rows-after, start-by, starts-by};
+ghost use Rattle.starting.specs.Quiet.{Idle, Quiet};
 
 // Process i has not started, and it is ready.
 fn can_start<'a>(
@@ -137,7 +139,17 @@ fn start<'a>(
     end
 }
 
-// Node n starts, if it is free.
+// Whether something is new for a node since the clock `looked`: its last process ended after it, or it was stirred after it.
+fn has_news(looked: u32, last: u32, stir: u32) -> bool
+    ensures { λ r. ⌜ (r ≡ false → (last ≤ looked) × (stir ≤ looked)) ⌝ }
+{
+    if looked < last {
+        return true;
+    }
+    looked < stir
+}
+
+// Node n starts, if it is free. It looks for a start only where something is new for it since the clock `looked`.
 fn start_node<'a>(
     processes: usize,
     remote: &'a [u32; 128],
@@ -152,42 +164,48 @@ fn start_node<'a>(
     turn: &'a [u32; 128],
     ticks: &'a [u32; 64],
     u: u32,
+    looked: u32,
+    stirred: &'a [u32; 8],
     n: usize,
     busy: &mut [u32; 8],
     comes: &mut [u32; 198],
 )
-    requires { ⌜ (n < 8) × (processes ≤ 64) × ((k : ℕ) → getD (now intofirst) k 0 ≤ 128) × Within (now from) (now cue) (now into) × ((k : ℕ) → getD (now turnfirst) k 0 ≤ 128) × ((j : ℕ) → getD (now turn) j 0 < 64) × (u ≤ 1000000000) × ((i : ℕ) → getD (now ticks) i 0 ≤ 100000) ⌝ }
+    requires { ⌜ (n < 8) × (processes ≤ 64) × ((k : ℕ) → getD (now intofirst) k 0 ≤ 128) × Within (now from) (now cue) (now into) × ((k : ℕ) → getD (now turnfirst) k 0 ≤ 128) × ((j : ℕ) → getD (now turn) j 0 < 64) × (u ≤ 1000000000) × ((i : ℕ) → getD (now ticks) i 0 ≤ 100000) × (getD (now busy) n 0 ≤ looked → getD (now stirred) n 0 ≤ looked → Idle processes (now remote) (now from) (now cue) (now unmet) (now run) (now several) (now intofirst) (now into) u (now turnfirst) (now turn) (now comes) n) ⌝ }
     ensures ends { λ _. ⌜ now (busy .exit) ≡ start-by processes (now (remote .entry)) (now (from .entry)) (now (cue .entry)) (now (unmet .entry)) (now (run .entry)) (now (several .entry)) (now (intofirst .entry)) (now (into .entry)) u (now (turnfirst .entry)) (now (turn .entry)) (now (ticks .entry)) n (record { busy = now (busy .entry); comes = now (comes .entry) }) .busy ⌝ }
     ensures rows { λ _. ⌜ now (comes .exit) ≡ start-by processes (now (remote .entry)) (now (from .entry)) (now (cue .entry)) (now (unmet .entry)) (now (run .entry)) (now (several .entry)) (now (intofirst .entry)) (now (into .entry)) u (now (turnfirst .entry)) (now (turn .entry)) (now (ticks .entry)) n (record { busy = now (busy .entry); comes = now (comes .entry) }) .comes ⌝ }
 {
     let last = busy[n];
     if last <= u {
-        let a = turnfirst[n] as usize;
-        let b = turnfirst[n + 1] as usize;
-        let end = start(
-            processes,
-            remote,
-            from,
-            cue,
-            unmet,
-            run,
-            several,
-            intofirst,
-            into,
-            turn,
-            ticks,
-            a,
-            b,
-            u,
-            last,
-            comes,
-        );
-        busy[n] = end;
+        let stir = stirred[n];
+        if has_news(looked, last, stir) {
+            let a = turnfirst[n] as usize;
+            let b = turnfirst[n + 1] as usize;
+            let end = start(
+                processes,
+                remote,
+                from,
+                cue,
+                unmet,
+                run,
+                several,
+                intofirst,
+                into,
+                turn,
+                ticks,
+                a,
+                b,
+                u,
+                last,
+                comes,
+            );
+            busy[n] = end;
+        }
     }
 }
 
 // Each free node starts its first ready process in turn that has not started: `busy` has then the end of each node's last process,
-// and `comes` the end of each process.
+// and `comes` the end of each process. A node whose last process ended by the clock `looked`, and that was not stirred after it, has
+// nothing new and is passed by.
 pub fn starts<'a>(
     processes: usize,
     slots: usize,
@@ -203,10 +221,12 @@ pub fn starts<'a>(
     turn: &'a [u32; 128],
     ticks: &'a [u32; 64],
     u: u32,
+    looked: u32,
+    stirred: &'a [u32; 8],
     busy: &mut [u32; 8],
     comes: &mut [u32; 198],
 )
-    requires { ⌜ (slots ≤ 8) × (processes ≤ 64) × ((k : ℕ) → getD (now intofirst) k 0 ≤ 128) × Within (now from) (now cue) (now into) × ((k : ℕ) → getD (now turnfirst) k 0 ≤ 128) × ((j : ℕ) → getD (now turn) j 0 < 64) × (u ≤ 1000000000) × ((i : ℕ) → getD (now ticks) i 0 ≤ 100000) ⌝ }
+    requires { ⌜ (slots ≤ 8) × (processes ≤ 64) × ((k : ℕ) → getD (now intofirst) k 0 ≤ 128) × Within (now from) (now cue) (now into) × ((k : ℕ) → getD (now turnfirst) k 0 ≤ 128) × ((j : ℕ) → getD (now turn) j 0 < 64) × (u ≤ 1000000000) × ((i : ℕ) → getD (now ticks) i 0 ≤ 100000) × Quiet processes slots (now remote) (now from) (now cue) (now unmet) (now run) (now several) (now intofirst) (now into) (now turnfirst) (now turn) (now ticks) u looked (now stirred) (now busy) (now comes) ⌝ }
     ensures ends { λ _. ⌜ now (busy .exit) ≡ starts-by processes (now (remote .entry)) (now (from .entry)) (now (cue .entry)) (now (unmet .entry)) (now (run .entry)) (now (several .entry)) (now (intofirst .entry)) (now (into .entry)) u (now (turnfirst .entry)) (now (turn .entry)) (now (ticks .entry)) slots (record { busy = now (busy .entry); comes = now (comes .entry) }) .busy ⌝ }
     ensures rows { λ _. ⌜ now (comes .exit) ≡ starts-by processes (now (remote .entry)) (now (from .entry)) (now (cue .entry)) (now (unmet .entry)) (now (run .entry)) (now (several .entry)) (now (intofirst .entry)) (now (into .entry)) u (now (turnfirst .entry)) (now (turn .entry)) (now (ticks .entry)) slots (record { busy = now (busy .entry); comes = now (comes .entry) }) .comes ⌝ }
 {
@@ -226,6 +246,8 @@ pub fn starts<'a>(
             turn,
             ticks,
             u,
+            looked,
+            stirred,
             n,
             busy,
             comes,

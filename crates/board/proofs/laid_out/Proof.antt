@@ -37,7 +37,7 @@ cues-requires : tie.Need-cues-requires
 cues-requires c κs = let h = start (c .before) .pre in (h .few-edges, (omega (arith, h .few-processes, h .few-edges), h .named))
 
 remotes-requires : tie.Need-remotes-requires
-remotes-requires c κs = let h = start (c .before .before) .pre in (h .few-edges, (h .senders, h .receivers))
+remotes-requires c κs = let h = start (c .before .before) .pre in (h .few-edges, (h .senders, (h .receivers, h .nodes)))
 
 places-requires : tie.Need-places-requires
 places-requires c κs = search needs

@@ -7,12 +7,12 @@ use borrow.Author.Needs.{needs}
 use Rattle.lists.specs.Lists.{fill}
 use Rattle.lists.proofs.Fill.{fill-next}
 use Rattle.plan.specs.Refusing.{at}
-use Rattle.board.specs.Layout.{differs, remote-by-edge}
+use Rattle.board.specs.Layout.{receiver-of, remote-by-edge}
 use Rattle.board.proofs.remotes.Statement.{statement}
 use Rattle.board.proofs.remotes.Tie as tie
 
 abbrev Inv-loop : tie.InvT-loop
-Inv-loop edges node e remote₀ k₀ remote k = (k ≤ edges) × (remote ≡ fill 128 (λ i. differs (at node (at (e .from) i)) (at node (at (e .to) i))) k)
+Inv-loop edges node e remote₀ k₀ remote k = (k ≤ edges) × (remote ≡ fill 128 (λ i. receiver-of (at node (at (e .from) i)) (at node (at (e .to) i))) k)
 
 abbrev μ-loop : tie.MeasureT-loop
 μ-loop edges node e remote₀ k₀ remote k = edges - k
@@ -42,28 +42,28 @@ element-copy-out-wide-2 c = search needs
 wide-requires-2 : tie.Need-wide-requires-2 Inv-loop μ-loop
 wide-requires-2 c κs = search needs
 
-mul-differ : tie.Need-mul-differ Inv-loop μ-loop
-mul-differ c =
+mul-receiver : tie.Need-mul-receiver Inv-loop μ-loop
+mul-receiver c =
     let at-loop = c .before .before .before .before .before in
     omega (arith, at-loop .before .before .pre .1 .0 (at-loop .loop .k), c .before .before .wide .ensures)
 
-array-read-differ : tie.Need-array-read-differ Inv-loop μ-loop
-array-read-differ c =
+array-read-receiver : tie.Need-array-read-receiver Inv-loop μ-loop
+array-read-receiver c =
     let at-loop = c .before .before .before .before .before in
     omega (arith, at-loop .before .before .pre .1 .0 (at-loop .loop .k), c .before .before .wide .ensures)
 
-mul-differ-2 : tie.Need-mul-differ-2 Inv-loop μ-loop
-mul-differ-2 c =
+mul-receiver-2 : tie.Need-mul-receiver-2 Inv-loop μ-loop
+mul-receiver-2 c =
     let at-loop = c .before .before .before .before .before in
-    omega (arith, at-loop .before .before .pre .1 .1 (at-loop .loop .k), c .wide2 .ensures)
+    omega (arith, at-loop .before .before .pre .1 .1 .0 (at-loop .loop .k), c .wide2 .ensures)
 
-array-read-differ-2 : tie.Need-array-read-differ-2 Inv-loop μ-loop
-array-read-differ-2 c =
+array-read-receiver-2 : tie.Need-array-read-receiver-2 Inv-loop μ-loop
+array-read-receiver-2 c =
     let at-loop = c .before .before .before .before .before in
-    omega (arith, at-loop .before .before .pre .1 .1 (at-loop .loop .k), c .wide2 .ensures)
+    omega (arith, at-loop .before .before .pre .1 .1 .0 (at-loop .loop .k), c .wide2 .ensures)
 
-differ-requires : tie.Need-differ-requires Inv-loop μ-loop
-differ-requires c κs = search needs
+receiver-requires : tie.Need-receiver-requires Inv-loop μ-loop
+receiver-requires c κs = c .before .before .before .before .before .before .before .pre .1 .1 .1 (c .wide2 .result)
 
 mul-remote : tie.Need-mul-remote Inv-loop μ-loop
 mul-remote c = search needs
@@ -81,15 +81,15 @@ loop-again : tie.Need-loop-again Inv-loop μ-loop
 loop-again c =
     let a = c .before .before .before .before .before .before .before .before .args in
     let l = c .before .before .before .before .before .before .loop in
-    let told = c .differ .ensures ∙ (λ j. differs (at (a .t1) (c .before .before .before .wide .ensures j)) (at (a .t1) (c .before .wide2 .ensures j))) in
-    (search needs, fill-next 128 (λ i. differs (at (a .t1) (at (a .t2 .from) i)) (at (a .t1) (at (a .t2 .to) i))) (l .k) (l .inv .1) told)
+    let told = c .receiver .ensures ∙ (λ j. receiver-of (at (a .t1) (c .before .before .before .wide .ensures j)) (at (a .t1) (c .before .wide2 .ensures j))) in
+    (search needs, fill-next 128 (λ i. receiver-of (at (a .t1) (at (a .t2 .from) i)) (at (a .t1) (at (a .t2 .to) i))) (l .k) (l .inv .1) told)
 
 returns : tie.Need-returns Inv-loop μ-loop
 unfolding remote-by-edge
 returns c =
     let a = c .before .before .before .args in
     let l = c .before .loop in
-    l .inv .1 ∙ ap (fill 128 (λ i. differs (at (a .t1) (at (a .t2 .from) i)) (at (a .t1) (at (a .t2 .to) i)))) (omega arith)
+    l .inv .1 ∙ ap (fill 128 (λ i. receiver-of (at (a .t1) (at (a .t2 .from) i)) (at (a .t1) (at (a .t2 .to) i)))) (omega arith)
 
 pub remotes-spec : {M : Type 1} → statement M
 remotes-spec =
@@ -105,11 +105,11 @@ remotes-spec =
     mul-wide-2
     element-copy-out-wide-2
     wide-requires-2
-    mul-differ
-    array-read-differ
-    mul-differ-2
-    array-read-differ-2
-    differ-requires
+    mul-receiver
+    array-read-receiver
+    mul-receiver-2
+    array-read-receiver-2
+    receiver-requires
     mul-remote
     array-write-remote
     add-k

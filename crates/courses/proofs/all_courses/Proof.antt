@@ -8,8 +8,9 @@ use lib.ListN.{length}
 use Rattle.model.specs.Plan.{Lines}
 use Rattle.board.specs.declared.Board.{Board}
 use Rattle.board.specs.Board.{Boarded}
-use Rattle.course.proofs.Loops.{fits-read, ended-read}
-use Rattle.courses.proofs.Single.{fits, ready-start, ready-long, ready-ends, ready-arrived, passes-few, course-of}
+use Rattle.course.proofs.Loops.{fits-read, begins-read, ended-read}
+use Rattle.courses.proofs.Fitting.{fits, begins-ready}
+use Rattle.courses.proofs.Single.{ready-start, ready-long, passes-few, course-of}
 use Rattle.courses.proofs.Taking.{resumed-ready, resumed-few, one-of}
 use Rattle.courses.proofs.All.{Sofar, sofar-start, sofar-next, sofar-end}
 use Rattle.courses.proofs.all_courses.Statement.{statement}
@@ -82,7 +83,7 @@ resume-requires c κs =
     let i = begun c in
     let l = i .before in
     let d = l .before .before .before .before .pre .0 in
-    let f = fits (d .plan) (board l) (d .boarded) in (
+    let f = fits (d .plan) (d .passes) (board l) (d .boarded) in (
       (few i, within i, f .few-processes, f .few-rows, f .few-conditions, f .few-slots, d .boarded .node-small, l .loop .inv .1 .place-long),
       (z .before .before .before .before .no-rows .ensures, z .before .before .before .no-rows2 .ensures, z .before .before .no-counts2 .ensures, z .before .no-counts3 .ensures, z .none-noted .ensures),
     )
@@ -102,12 +103,11 @@ course-requires c κs =
     let d = l .before .before .before .before .pre .0 in
     let e = l .loop .inv .1 .first (d .plan) (d .passes) (d .boarded) .earlier in
     let w = resumed-ready (d .plan) (d .passes) (board l) (d .boarded) (l .loop .c) (among i (d .plan) (d .boarded)) (l .loop .comes) (l .loop .place) (l .loop .notes) e _ _ _ _ _ _ (r .resume .ensures) in (
-      fits-read (board l) (u .unmet .result) (fits (d .plan) (board l) (d .boarded)),
+      fits-read (board l) (u .unmet .result) (fits (d .plan) (d .passes) (board l) (d .boarded)),
+      begins-read (board l) (u .unmet .result) _ _ _ (begins-ready (d .plan) (d .passes) (board l) (d .boarded) (l .loop .c) (among i (d .plan) (d .boarded)) (u .unmet .result) (u .unmet .ensures) _ _ _ _ _ _ w),
       ready-start _ _ _ _ _ _ _ _ w,
       resumed-few (d .plan) (d .passes) (board l) (d .boarded) (l .loop .c) (among i (d .plan) (d .boarded)) (l .loop .comes) (l .loop .place) (l .loop .notes) e _ _ _ _ _ _ (r .resume .ensures),
       ready-long _ _ _ _ _ _ _ _ w,
-      ready-ends (d .plan) (board l) (d .boarded) _ _ _ _ _ _ _ w,
-      ready-arrived (d .plan) (board l) (d .boarded) _ _ _ _ _ _ _ w,
     )
 
 store-requires : tie.Need-store-requires Inv-loop μ-loop
