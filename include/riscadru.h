@@ -7,9 +7,9 @@
  * do not overlap. Every function returns for every text and every buffer.
  *
  * Nothing is allocated and nothing is kept between calls: a call works on its caller's stack. Measured on
- * x86-64, the least stack with which a process that made the call came through, to 8 KiB: riscadru_plan_table
- * 719 KiB, riscadru_plan_listing 455, riscadru_check_table 335, riscadru_lookup 63, riscadru_copy_plan 47, the
- * row functions 23. That is not proved.
+ * x86-64, with S and with a largest plan, the least stack with which a process that made the call came through,
+ * rounded up to 8 KiB: riscadru_plan_table 720 KiB, riscadru_plan_listing 456, riscadru_check_table 344,
+ * riscadru_lookup 64, riscadru_copy_plan 48, the row functions 24. That is not proved.
  */
 #ifndef RISCADRU_H
 #define RISCADRU_H

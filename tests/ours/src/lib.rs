@@ -8,3 +8,5 @@
 pub mod archive;
 #[cfg(have_archive)]
 pub mod comparing;
+#[cfg(have_archive)]
+pub mod linking;

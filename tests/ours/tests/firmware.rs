@@ -13,12 +13,13 @@ use generate::any_tables::{changed, far_ticks, random_entries};
 use generate::tables::{sound_variants, to_the_last_tick, Table};
 use generate::{plan, Kind, Random, KINDS};
 use ours::comparing::{bytes, count, Shares};
+use ours::linking::{link, root};
 use reference::lookup::{first_entry, Question};
 use reference::table::row_number;
 use reference::who_runs::combinations;
 use reference::{print, run, Lines};
 use suite::cases::{packing, s_with_a_long_message};
-use suite::{planned, s, S};
+use suite::{full_times, planned, random_times, s, S};
 
 /// Of a thousand of the plans that the tests go by, how many are run.
 const SHARES: Shares = [
@@ -30,11 +31,6 @@ const SHARES: Shares = [
     (Kind::LongestRound, 1),
     (Kind::ShortestRound, 1),
 ];
-
-/// The repository.
-fn root() -> PathBuf {
-    PathBuf::from(env!("CARGO_MANIFEST_DIR")).join("../..")
-}
 
 /// A place for a file of this test.
 fn temporary(name: &str) -> PathBuf {
@@ -51,18 +47,7 @@ fn firmware() -> &'static Path {
             .filter(|path| path.extension().is_some_and(|extension| extension == "c"))
             .collect();
         let program = temporary("unit");
-        let output = Command::new("gcc")
-            .args(["-std=c11", "-Wall", "-Wextra", "-Werror", "-I"])
-            .arg(root().join("include"))
-            .args(sources)
-            .arg("-L")
-            .arg(root().join("target/staticlib"))
-            .args(["-lcapi", "-o"])
-            .arg(&program)
-            .output()
-            .expect("gcc");
-        let said = String::from_utf8_lossy(&output.stderr);
-        assert!(output.status.success(), "gcc: {said}");
+        link(&sources, &program);
         program
     })
 }
@@ -197,22 +182,6 @@ fn same_run(files: &Files, lines: &Lines, words: &[u32], combination: u32, times
     let wanted = Events::wanted(lines, words, combination, times);
     assert_eq!(events, wanted, "{more:?}, {words:?}\n{}", shown());
     events.starts.len()
-}
-
-/// The full ticks of each process.
-fn full_times(lines: &Lines) -> Vec<u64> {
-    lines.processes.iter().map(|p| p.ticks).collect()
-}
-
-/// Running times from 0 to the ticks, often 0 or the full ticks.
-fn random_times(lines: &Lines, random: &mut Random) -> Vec<u64> {
-    full_times(lines)
-        .into_iter()
-        .map(|ticks| {
-            let between = random.between(0, ticks);
-            random.one_of(&[0, ticks, between])
-        })
-        .collect()
 }
 
 /// Runs a table in every combination, with the full ticks and with random times.

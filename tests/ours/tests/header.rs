@@ -5,6 +5,9 @@ use std::path::Path;
 use std::path::PathBuf;
 use std::process::Command;
 
+#[cfg(have_archive)]
+use ours::linking::link;
+
 /// Compiles the header alone, with every warning an error.
 fn compiles(compiler: &str, language: &[&str]) {
     let root = PathBuf::from(env!("CARGO_MANIFEST_DIR"));
@@ -48,22 +51,10 @@ int main(void) { return RISCADRU_NONE != UINT64_MAX || RISCADRU_REFUSED(9) != UI
 #[cfg(have_archive)]
 #[test]
 fn the_header_declares_what_the_archive_has() {
-    let root = PathBuf::from(env!("CARGO_MANIFEST_DIR")).join("../..");
     let folder = Path::new(env!("CARGO_TARGET_TMPDIR"));
     let (source, program) = (folder.join("all.c"), folder.join("all"));
     std::fs::write(&source, ALL).expect("a file");
-    let output = Command::new("gcc")
-        .args(["-std=c11", "-Wall", "-Wextra", "-Werror", "-I"])
-        .arg(root.join("include"))
-        .arg(&source)
-        .arg("-L")
-        .arg(root.join("target/staticlib"))
-        .args(["-lcapi", "-o"])
-        .arg(&program)
-        .output()
-        .expect("gcc");
-    let said = String::from_utf8_lossy(&output.stderr);
-    assert!(output.status.success(), "gcc: {said}");
+    link(&[source], &program);
     let status = Command::new(program).status().expect("the program");
     assert!(status.success());
 }

@@ -45,6 +45,22 @@ pub fn s() -> Lines {
     reference::read(S.as_bytes()).unwrap()
 }
 
+/// The full ticks of each process.
+pub fn full_times(lines: &Lines) -> Vec<u64> {
+    lines.processes.iter().map(|p| p.ticks).collect()
+}
+
+/// Running times from 0 to the ticks, often 0 or the full ticks.
+pub fn random_times(lines: &Lines, random: &mut Random) -> Vec<u64> {
+    full_times(lines)
+        .into_iter()
+        .map(|ticks| {
+            let between = random.between(0, ticks);
+            random.one_of(&[0, ticks, between])
+        })
+        .collect()
+}
+
 /// A plan with pick urgency and these slots, given as node and bytes.
 pub fn bus(byte: u64, slots: &[(u64, u64)]) -> Lines {
     let slots = slots.iter().map(|&(node, bytes)| Slot { node, bytes });

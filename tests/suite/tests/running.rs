@@ -7,7 +7,7 @@ use reference::run::run_over;
 use reference::table::entries;
 use reference::who_runs::combinations;
 use reference::{check, print, run, Lines};
-use suite::{for_plans, planned, question, FEW};
+use suite::{for_plans, full_times, planned, question, random_times, FEW};
 
 /// The planner's table.
 fn planned_table(lines: &Lines) -> Table {
@@ -16,22 +16,6 @@ fn planned_table(lines: &Lines) -> Table {
         words: planned.words,
         delay: planned.delay,
     }
-}
-
-/// The full ticks of each process.
-fn full_times(lines: &Lines) -> Vec<u64> {
-    lines.processes.iter().map(|p| p.ticks).collect()
-}
-
-/// Running times from 0 to the ticks, often 0 or the full ticks.
-fn random_times(lines: &Lines, random: &mut Random) -> Vec<u64> {
-    full_times(lines)
-        .into_iter()
-        .map(|ticks| {
-            let between = random.between(0, ticks);
-            random.one_of(&[0, ticks, between])
-        })
-        .collect()
 }
 
 /// Asserts demand 3 for every combination of an accepted table.
