@@ -12,6 +12,7 @@ use borrow.Author.Tests.{leb-false, not-true}
 use Rattle.lists.specs.Lists.{if_then_else_, any, keep, repeated}
 use Rattle.lists.proofs.Tests.{clash, neither, is-true}
 use Rattle.lists.proofs.Members.{none-in, keep-in, map-in, no-members, one-or-none}
+use Rattle.lists.proofs.Counts.{passing-few}
 use Rattle.lists.proofs.Different.{different-few}
 use Rattle.lists.proofs.Sums.{length-each}
 use Rattle.model.specs.Plan.{Lines}
@@ -26,46 +27,6 @@ use Rattle.laws.proofs.Columns.{met-by}
 use Rattle.laws.proofs.Combinations.{in-combinations, combination-length, in-no}
 use Rattle.laws.proofs.Lawful.{once-different, met-of}
 use Rattle.laws.proofs.Checks.{none-14}
-
--- what a test keeps of a part is no more than what it keeps of the whole
-keep-part : {A : Type 0} (f g : A → Bool) (xs : List A) → length (keep f (keep g xs)) ≤ length (keep f xs)
-keep-part f g [] = omega arith
-keep-part {A} f g (x ∷ xs) = at (g x) (f x) refl (keep-part f g xs)
-  where
-    at : (a b : Bool) → f x ≡ b → length (keep f (keep g xs)) ≤ length (keep f xs) →
-        length (keep f (if a then (x ∷ keep g xs) else keep g xs)) ≤ length (if b then (x ∷ keep f xs) else keep f xs)
-    at true true e l = rw e (omega arith)
-    at true false e l = rw e l
-    at false true e l = omega arith
-    at false false e l = l
-
--- what a test keeps and what it leaves
-keep-rest : {A : Type 0} (f : A → Bool) (xs : List A) → length xs ≡ length (keep f xs) + length (keep (λ x. not (f x)) xs)
-keep-rest f [] = refl
-keep-rest f (x ∷ xs) = at (f x) (keep-rest f xs)
-  where
-    at : (b : Bool) → length xs ≡ length (keep f xs) + length (keep (λ x. not (f x)) xs) →
-        suc (length xs) ≡ length (if b then (x ∷ keep f xs) else keep f xs) + length (if not b then (x ∷ keep (λ x. not (f x)) xs) else keep (λ x. not (f x)) xs)
-    at true e = omega arith
-    at false e = omega arith
-
--- elements of which each passes one of some tests are at most as many as the tests, times how many pass one test
-passing-few : {A B : Type 0} (t : B → A → Bool) (k : ℕ) (cs : List B) (es : List A) →
-    ((e : A) → In e es → (c : B) × In c cs × (t c e ≡ true)) → ((c : B) → In c cs → length (keep (t c) es) ≤ k) → length es ≤ k * length cs
-passing-few t k [] es some few =
-    let e : es ≡ [] = no-members es (λ e m. in-none (some e m .1)) in
-    omega (arith, ap length e)
-passing-few {A} {B} t k (c ∷ cs) es some few =
-    let rest : List A = keep (λ e. not (t c e)) es in
-    let r : length rest ≤ k * length cs =
-    passing-few t k cs rest (λ e m. let q = keep-in (λ e. not (t c e)) es m in later e (q .1) (some e (q .0)))
-    (λ d m. (let l = few d (there m) in omega (arith, keep-part (t d) (λ e. not (t c e)) es))) in
-    let s : k * suc (length cs) ≡ k + k * length cs = omega arith in
-    omega (arith, keep-rest (t c) es, few c (here refl))
-  where
-    later : (e : A) → not (t c e) ≡ true → (d : B) × In d (c ∷ cs) × (t d e ≡ true) → (d : B) × In d cs × (t d e ≡ true)
-    later e n (d, here q, s) = clash (ap (λ x. t x e) (sym q) ∙ s) (not-true _ n)
-    later e n (d, there m, s) = (d, m, s)
 
 few-combinations : (n : ℕ) → length (combinations-of n) ≤ 2 ^ n
 few-combinations zero = omega arith

@@ -40,7 +40,7 @@ use Rattle.laws.proofs.Slots.{slot-in}
 use Rattle.laws.proofs.Sound.{sound-iff}
 
 -- an item has at least one byte, in a slot of at most 64
-item-bytes : (p : Lines) → Good p → (r : ℕ) → length (p .processes) ≤ r → r < rows p → 1 ≤ row-bytes p r
+pub item-bytes : (p : Lines) → Good p → (r : ℕ) → length (p .processes) ≤ r → r < rows p → 1 ≤ row-bytes p r
 item-bytes p g r u l = at r (kind p r l) u
   where
     at : (r : ℕ) → Kind p r → length (p .processes) ≤ r → 1 ≤ row-bytes p r
@@ -48,7 +48,7 @@ item-bytes p g r u l = at r (kind p r l) u
     at r (an-edge e l) u = omega (arith, edge-bytes p e l, g .edge-one e l)
     at r (a-condition k l) u = omega (arith, condition-bytes p k)
 
-slot-bytes : (p : Lines) → Good p → (r : ℕ) → r < rows p → slot-of p (row-node p r) .bytes ≤ 64
+pub slot-bytes : (p : Lines) → Good p → (r : ℕ) → r < rows p → slot-of p (row-node p r) .bytes ≤ 64
 unfolding row-node
 slot-bytes p g r l = g .slot-most _ (slot-in p g (sender p r) (sender-in p g r l))
 

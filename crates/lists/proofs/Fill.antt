@@ -27,6 +27,12 @@ zeros-at zero k = refl
 zeros-at (suc size) zero = refl
 zeros-at (suc size) (suc k) = zeros-at size k
 
+-- an array of one number
+pub each-at : (size x k : ℕ) → k < size → _≡_ {A = ℕ} (getD (replicate size x) k 0) x
+each-at zero x k l = absurd (omega arith)
+each-at (suc size) x zero l = refl
+each-at (suc size) x (suc k) l = each-at size x k (omega arith)
+
 module _ (size : ℕ) (f : ℕ → ℕ) where
   pub fill-at : (n k : ℕ) → n ≤ size → k < n → getD (fill size f n) k 0 ≡ f k
   unfolding fill

@@ -30,14 +30,6 @@ upfrom-append a (suc n) m =
     let r : a + suc n ≡ suc a + n = omega arith in
     rw (q, r) (λ j. a ∷ upfrom-append (suc a) n m j)
 
-pub keep-short : (f : ℕ → Bool) (list : List ℕ) → length (keep f list) ≤ length list
-keep-short f [] = omega arith
-keep-short f (x ∷ xs) = by (f x) (keep-short f xs)
-  where
-    by : (b : Bool) → length (keep f xs) ≤ length xs → length (if b then (x ∷ keep f xs) else keep f xs) ≤ suc (length xs)
-    by true r = omega arith
-    by false r = omega arith
-
 -- those whose key is below k, and those whose key is k
 module _ (key : ℕ → ℕ) where
   pub keep-next : (list : List ℕ) (k : ℕ) → length (keep (λ x. ltb (key x) k) list) + length (keep (λ x. eqb (key x) k) list) ≡ length (keep (λ x. ltb (key x) (suc k)) list)

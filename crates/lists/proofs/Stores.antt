@@ -1,11 +1,11 @@
--- A run of stores: of one list after another, and of a list at the front.
+-- A run of stores: of one list after another, of a list at the front, and what stands where afterwards.
 -- Assumes nothing.
-use mathlib.Core.Path.{_≡_, _∙_}
+use mathlib.Core.Path.{_≡_, refl, ap, _∙_}
 use mathlib.Core.List.{List, [], _∷_, _++_}
-use Prim.Native.Nat.{ℕ, suc, _+_, _≤_}
+use Prim.Native.Nat.{ℕ, zero, suc, _+_, _≤_, _<_}
 use native.Mathlib.Omega.{arith}
-use lib.ListN.{length, set}
-use lib.Seq.{sets, sets-eq}
+use lib.ListN.{length, getD, set, length-set}
+use lib.Seq.{sets, sets-eq, getD-set-same, getD-set-other}
 use Rattle.lists.specs.Front.{front}
 
 module _ {A : Type 0} where
@@ -16,3 +16,21 @@ module _ {A : Type 0} where
   pub sets-front : (u l : List A) → length u ≤ length l → sets l 0 u ≡ front u l
   unfolding front
   sets-front u l h = let e : 0 + length u ≡ length u = omega arith in sets-eq u l 0 (omega arith) ∙ rw e
+
+-- before the first place and behind the last everything is as it was, and between them stands what was stored
+pub sets-before : (xs : List ℕ) (i j : ℕ) (vs : List ℕ) → j < i → getD (sets xs i vs) j 0 ≡ getD xs j 0
+sets-before xs i j [] l = refl
+sets-before xs i j (v ∷ vs) l = sets-before (set xs i v) (suc i) j vs (omega arith) ∙ getD-set-other xs i j v 0 (λ q. absurd (omega arith))
+
+pub sets-after : (xs : List ℕ) (i j : ℕ) (vs : List ℕ) → i + length vs ≤ j → getD (sets xs i vs) j 0 ≡ getD xs j 0
+sets-after xs i j [] l = refl
+sets-after xs i j (v ∷ vs) l = sets-after (set xs i v) (suc i) j vs (omega arith) ∙ getD-set-other xs i j v 0 (λ q. absurd (omega arith))
+
+pub sets-at : (xs : List ℕ) (i : ℕ) (vs : List ℕ) (n : ℕ) → n < length vs → i + length vs ≤ length xs → getD (sets xs i vs) (i + n) 0 ≡ getD vs n 0
+sets-at xs i [] n l r = absurd (omega arith)
+sets-at xs i (v ∷ vs) zero l r =
+    let q : i + 0 ≡ i = omega arith in
+    ap (λ (j : ℕ). getD (sets (set xs i v) (suc i) vs) j 0) q ∙ sets-before (set xs i v) (suc i) i vs (omega arith) ∙ getD-set-same xs i v 0 (omega arith)
+sets-at xs i (v ∷ vs) (suc n) l r =
+    let q : i + suc n ≡ suc i + n = omega arith in
+    ap (λ (j : ℕ). getD (sets (set xs i v) (suc i) vs) j 0) q ∙ sets-at (set xs i v) (suc i) vs n (omega arith) (omega (arith, length-set xs i v))
