@@ -38,6 +38,7 @@
 -- The planner's own table
 --   Entries         its entries are in order, and equal row, known and values make equal entries (`equal-places`)
 --   OwnTable        `own-table-sound` with the delay given, and `planned-runs`: demand 3 for it
+--   Words           entries and frames as words and back, and the listing of a result's words
 --   Frames          every frame is used by an item of its node (`frame-used`), and every item has its frame (`item-framed`)
 pub mod Good
 pub mod Active
@@ -70,5 +71,6 @@ pub mod RunHeard
 pub mod RunLog
 pub mod Demand
 pub mod Entries
+pub mod Words
 pub mod OwnTable
 pub mod Frames

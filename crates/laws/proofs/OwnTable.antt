@@ -38,6 +38,7 @@ use Rattle.laws.proofs.Rules.{Start, Item, Kept, Lawful}
 use Rattle.laws.proofs.Safety.{planning-keeps}
 use Rattle.laws.proofs.Slots.{slot-in}
 use Rattle.laws.proofs.Sound.{sound-iff}
+use Rattle.laws.proofs.Words.{entries-back, entry-words-count}
 
 -- an item has at least one byte, in a slot of at most 64
 pub item-bytes : (p : Lines) → Good p → (r : ℕ) → length (p .processes) ≤ r → r < rows p → 1 ≤ row-bytes p r
@@ -196,19 +197,10 @@ module _ (p : Lines) (fine : plan-refusal p ≡ nothing) where
         worst = own-delay;
       }
 
--- entries as words and back
-words-back : (es : List Entry) → entries-of (entry-words es) ≡ es
-words-back [] = refl
-words-back (e ∷ es) = λ i. e ∷ words-back es i
-
-words-length : (es : List Entry) → length (entry-words es) ≡ 5 * length es
-words-length [] = refl
-words-length (e ∷ es) = let q = words-length es in omega arith
-
 pub own-table-sound : (p : Lines) → plan-refusal p ≡ nothing → Sound p (entry-words (result p .entries)) (result p .delay)
 own-table-sound p fine =
     let es : List Entry = result p .entries in
-    sound-iff p (entry-words es) (result p .delay) .1 (fine, (let q = words-length es in omega arith), rw (words-back es) (own-lawful p fine))
+    sound-iff p (entry-words es) (result p .delay) .1 (fine, (let q = entry-words-count es in omega arith), rw (entries-back es) (own-lawful p fine))
 
 pub planned-runs : (p : Lines) (ask : Ask) → plan-refusal p ≡ nothing → Answered p (entry-words (result p .entries)) ask → Demand-3 p (entry-words (result p .entries)) (result p .delay) ask
 planned-runs p ask fine told = demand-3 p (entry-words (result p .entries)) (result p .delay) ask (own-table-sound p fine) told

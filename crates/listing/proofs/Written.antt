@@ -9,16 +9,22 @@ use borrow.Author.Tests.{lt-ltb, le-ltb}
 use lib.ListN.{length}
 use Rattle.lists.proofs.Stores.{sets-front}
 use Rattle.model.specs.Text.{wrote, not-written, unless-refused, fitting, bytes-after}
+use Rattle.model.specs.Listing.{words-listing}
+use Rattle.plan.specs.declared.Plan.{Plan}
+use Rattle.plan.specs.Memory.{lines}
+use Rattle.plan.proofs.Counted.{counted-length}
 use Rattle.text.specs.Put.{Put}
 use Rattle.listing.specs.declared.Listed.the-variants.{Wrote, Refused}
 use Rattle.listing.specs.Answer.{written-of, answer-of}
-use Rattle.listing.specs.Fits.{Fits}
+use Rattle.store.specs.Fits.{Fits}
+use Rattle.listing_parts.specs.Parts.{listing-of}
+use Rattle.listing_parts.proofs.Lines.{listing-same}
 
-lent-less : (lent : ℕ) (bytes : List ℕ) → lent < length bytes → written-of lent bytes ≡ not-written 10
+pub lent-less : (lent : ℕ) (bytes : List ℕ) → lent < length bytes → written-of lent bytes ≡ not-written 10
 unfolding written-of unless-refused fitting
 lent-less lent bytes h = rw (lt-ltb lent (length bytes) h)
 
-lent-enough : (lent : ℕ) (bytes : List ℕ) → length bytes ≤ lent → written-of lent bytes ≡ wrote bytes
+pub lent-enough : (lent : ℕ) (bytes : List ℕ) → length bytes ≤ lent → written-of lent bytes ≡ wrote bytes
 unfolding written-of unless-refused fitting
 lent-enough lent bytes h = rw (le-ltb lent (length bytes) h)
 
@@ -33,3 +39,10 @@ stored-all {l} {m} {end} {bytes} p h = rw (lent-enough (length l) bytes h) (ap W
 
 pub fits-all : (l bytes : List ℕ) → length bytes ≤ length l → Fits l 0 bytes
 fits-all l bytes h = record { within = omega arith }
+
+-- the listing for a plan is that of its counts
+pub plan-listing : (p : Plan) (delay passed : ℕ) (table frames : List ℕ) →
+    words-listing (lines p) delay passed table frames ≡ listing-of (p .processes) (p .edges) (p .conditions) delay passed table frames
+unfolding lines
+plan-listing p delay passed table frames =
+    listing-same (lines p) delay passed table frames ∙ simp counted-length

@@ -1,3 +1,1 @@
-pub mod Parts
-pub mod Fits
 pub mod Answer

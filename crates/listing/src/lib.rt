@@ -1,24 +1,110 @@
 // The listing: a table and a frame list, or a refusal, as the lines that the planning program prints, in lent bytes.
 // Where fewer bytes are lent than such a listing may need it is counted first, with no store, so that refusal 10 leaves the bytes unchanged; then it is stored.
-mod count;
-mod store;
-
-use count::digits;
-use count::exceeds;
+use listing_count::digits;
+use listing_count::exceeds;
+use listing_entries::put_entries;
+use listing_frames::put_frames;
+use listing_frames::put_head;
 use plan::Plan;
-use store::put_listing;
-use store::put_refusal;
+use store::put_word;
+use text::Writer;
+use text::filled;
+use text::start;
 ghost use mathlib.Core.Path.{_≡_};
 ghost use lib.ListN.{length};
 ghost use Rattle.model.specs.Listing.{refused-line, words-listing};
 ghost use Rattle.model.specs.Text.{bytes-after};
 ghost use Rattle.plan.specs.Memory.{lines};
+ghost use Rattle.text.specs.Line.{put-on};
+ghost use Rattle.text.specs.Put.{Put};
+ghost use Rattle.store.specs.Fits.{Fits};
+ghost use Rattle.listing_parts.specs.Parts.{head-of, entries-text, frames-text, listing-of};
 ghost use Rattle.listing.specs.Answer.{answer-of, written-of};
 
 // What a listing answers: how many bytes it wrote, or the number of a refusal.
 pub enum Listed {
     Wrote(usize),
     Refused(u32),
+}
+
+// The line writer once it has the lines of the delay and of the pass-over count.
+fn head<'a>(w: Writer<'a>, delay: u32, passed: u32) -> Writer<'a>
+    requires { ⌜ Fits (now (w .out)) (w .at) (head-of delay passed) ⌝ }
+    ensures { λ r. ⌜ r ≡ put-on (w .entry) (head-of delay passed) ⌝ }
+{
+    let at = w.at;
+    let end = put_head(&mut *w.out, at, delay, passed);
+    Writer {
+        out: w.out,
+        at: end,
+    }
+}
+
+// The line writer once it has the lines of a table.
+fn entries<'a, 'b>(
+    w: Writer<'a>,
+    processes: usize,
+    edges: usize,
+    conditions: usize,
+    table: &'b [u32],
+) -> Writer<'a>
+    requires { ⌜ Fits (now (w .out)) (w .at) (entries-text processes edges conditions (now table)) ⌝ }
+    ensures { λ r. ⌜ r ≡ put-on (w .entry) (entries-text processes edges conditions (now (table .entry))) ⌝ }
+{
+    let at = w.at;
+    let end = put_entries(&mut *w.out, at, processes, edges, conditions, table);
+    Writer {
+        out: w.out,
+        at: end,
+    }
+}
+
+// The line writer once it has the lines of a frame list.
+fn frames<'a, 'b>(w: Writer<'a>, list: &'b [u32]) -> Writer<'a>
+    requires { ⌜ Fits (now (w .out)) (w .at) (frames-text (now list)) ⌝ }
+    ensures { λ r. ⌜ r ≡ put-on (w .entry) (frames-text (now (list .entry))) ⌝ }
+{
+    let at = w.at;
+    let end = put_frames(&mut *w.out, at, list);
+    Writer {
+        out: w.out,
+        at: end,
+    }
+}
+
+// Stores a listing that the lent bytes have room for, through the line writer.
+fn put_listing<'a>(
+    out: &mut [u8],
+    processes: usize,
+    edges: usize,
+    conditions: usize,
+    delay: u32,
+    passed: u32,
+    table: &'a [u32],
+    list: &'a [u32],
+) -> usize
+    requires { ⌜ Fits (now out) 0 (listing-of processes edges conditions delay passed (now table) (now list)) ⌝ }
+    ensures { λ r. ⌜ Put (now (out .entry)) (now (out .exit)) 0 r (listing-of processes edges conditions delay passed (now (table .entry)) (now (list .entry))) ⌝ }
+{
+    filled(frames(
+        entries(
+            head(start(out, 0), delay, passed),
+            processes,
+            edges,
+            conditions,
+            table,
+        ),
+        list,
+    ))
+}
+
+// Stores the line of a refusal that the lent bytes have room for: its label and number through the line writer.
+fn put_refusal(out: &mut [u8], number: u32) -> usize
+    requires { ⌜ Fits (now out) 0 (refused-line number) ⌝ }
+    ensures { λ r. ⌜ Put (now (out .entry)) (now (out .exit)) 0 r (refused-line number) ⌝ }
+{
+    let end = text::put_labelled(out, 0, b"(refused ", number);
+    put_word(out, end, b")\n")
 }
 
 // Writes the listing of a table and a frame list, for a plan, a worst delay and a pass-over count, to the front of the lent bytes.

@@ -1,6 +1,4 @@
--- Laws of what the plan writer puts and answers: Parts (each line as the runs that are put), Runs (lines of one kind), Whole (the text of a
--- plan, and when it is written), Read (what is written is read).
-pub mod Parts
+-- Laws of what the plan writer puts and answers: Runs (lines of one kind), Whole (the text of a plan, and when it is written), Read (what is written is read).
 pub mod Runs
 pub mod Whole
 pub mod Read

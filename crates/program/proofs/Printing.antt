@@ -30,7 +30,7 @@ use Rattle.model.specs.Listing.{refused-line, words-listing, printed}
 use Rattle.model.specs.Text.{bytes-after}
 use Rattle.listing.specs.declared.Listed.{Listed}
 use Rattle.listing.specs.Answer.{written-of, answer-of as listed-of}
-use Rattle.listing.proofs.Printed.{printed-words}
+use Rattle.laws.proofs.Words.{printed-words}
 use Rattle.planner.specs.declared.Made.{Made}
 use Rattle.planner.specs.declared.Planned.the-variants as answer
 use Rattle.planner.specs.Planner.{answer-of}

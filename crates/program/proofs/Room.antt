@@ -3,16 +3,17 @@
 -- Assumes nothing.
 use mathlib.Core.Path.{_≡_, refl, sym, ap, _∙_, subst}
 use mathlib.Core.Bool.{Bool, true, false}
-use mathlib.Core.List.{List, [], _∷_, List·Memᴰ as In}
+use mathlib.Core.List.{List, List·Memᴰ as In}
 use Prim.Native.Nat.{ℕ, _+_, _-_, _*_, _^_, _≤_, _<_}
 use native.Mathlib.Nat.{pow-le-pow-right}
 use native.Mathlib.Omega.{arith}
 use borrow.Author.Tests.{ltb-false}
 use lib.Dec.{eqb, ltb}
 use lib.ListN.{length, length-map}
-use Rattle.lists.specs.Lists.{if_then_else_, any, keep, each, below, sum}
+use Rattle.lists.specs.Lists.{any, keep, each, below, sum}
 use Rattle.lists.proofs.Members.{map-in}
 use Rattle.lists.proofs.Keep.{length-upfrom}
+pub use Rattle.lists.proofs.Parts.{keep-short}
 use Rattle.lists.proofs.Sums.{greatest-le, sum-most-in, length-each}
 use Rattle.model.specs.Plan.{Lines, process, edges}
 use Rattle.model.specs.Activity.{combinations}
@@ -24,6 +25,7 @@ use Rattle.model.specs.Table.{Entry, Frame, Answer, turned-down, made, Result, 
 use Rattle.model.specs.Text.{Reading, after-refusal, Answers-text, of-no-form, of-form}
 use Rattle.model.specs.Text as m
 use Rattle.model.specs.Listing.{refused-line, printed, program-prints}
+use Rattle.grammar.proofs.Numbers.{decimal-length}
 use Rattle.laws.proofs.Bound.{bound-small, delay-within}
 use Rattle.laws.proofs.Combinations.{combination-length}
 use Rattle.laws.proofs.Entries.{final, Made, entries-in}
@@ -35,32 +37,15 @@ use Rattle.laws.proofs.Rows.{sender-in}
 use Rattle.laws.proofs.Rules.{Kept}
 use Rattle.laws.proofs.Safety.{planning-keeps}
 use Rattle.laws.proofs.Slots.{slot-in}
+use Rattle.laws.proofs.Words.{entries-back, frames-back, printed-words}
+pub use Rattle.laws.proofs.Words.{entry-words-count, frame-words-count}
 use Rattle.mask.proofs.Numbered.{combinations-count}
-use Rattle.listing.specs.Parts.{entry-text, entries-text, frame-text, frames-text, listing-of}
-use Rattle.listing.proofs.Digits.{one-digit}
-use Rattle.listing.proofs.Lengths.{frame-length, listing-length}
-use Rattle.listing.proofs.Most.{digits-most, line-most}
-use Rattle.listing.proofs.Lines.{refused-length, listing-same}
-use Rattle.listing.proofs.Printed.{printed-words, entries-back, frames-back}
+use Rattle.listing_parts.specs.Parts.{entry-text, entries-text, frame-text, frames-text, listing-of}
+use Rattle.listing_parts.proofs.Digits.{one-digit}
+use Rattle.listing_parts.proofs.Lengths.{frame-length, listing-length}
+use Rattle.listing_parts.proofs.Most.{line-most}
+use Rattle.listing_parts.proofs.Lines.{refused-length, listing-same}
 use Rattle.program.proofs.Printing.{made-suffice}
-
--- a part of a list is no longer
-pub keep-short : {A : Type 0} (f : A → Bool) (xs : List A) → length (keep f xs) ≤ length xs
-keep-short f [] = omega arith
-keep-short f (x ∷ xs) = at (f x) (keep-short f xs)
-  where
-    at : (b : Bool) → length (keep f xs) ≤ length xs → length (if b then (x ∷ keep f xs) else keep f xs) ≤ length (x ∷ xs)
-    at true r = omega arith
-    at false r = omega arith
-
--- five words to an entry, three to a frame
-pub entry-words-count : (es : List Entry) → length (entry-words es) ≡ 5 * length es
-entry-words-count [] = refl
-entry-words-count (e ∷ es) = let r = entry-words-count es in omega arith
-
-pub frame-words-count : (fs : List Frame) → length (frame-words fs) ≡ 3 * length fs
-frame-words-count [] = refl
-frame-words-count (f ∷ fs) = let r = frame-words-count fs in omega arith
 
 -- the bounds of an entry of the planner's table
 record Bounded (p : Lines) (e : Entry) : Type 0 where
@@ -102,7 +87,7 @@ module _ (p : Lines) (fine : plan-refusal p ≡ nothing) where
       let t : f .tick ≤ 999999999 = omega (arith, b .tick, u .2) in
       let n : f .node < 8 = omega (arith, q .0, u .3) in
       let o : f .used ≤ 64 = omega (arith, q .1, u .4) in
-      omega (arith, frame-length (f .tick) (f .node) (f .used), digits-most 8 (f .tick) (omega arith), one-digit (f .node) (omega arith), digits-most 1 (f .used) (omega arith))
+      omega (arith, frame-length (f .tick) (f .node) (f .used), decimal-length 8 (f .tick) (omega arith), one-digit (f .node) (omega arith), decimal-length 1 (f .used) (omega arith))
 
   pub plans-few : length (plans p) ≤ 64
   unfolding plans
@@ -157,8 +142,8 @@ module _ (p : Lines) (fine : plan-refusal p ≡ nothing) where
         listing-length P E C (result p .delay) (sum (result p .passed)) (entry-words es) (frame-words fs),
         entry-words-count es,
         frame-words-count fs,
-        digits-most 8 (result p .delay) (omega (arith, delay-most)),
-        digits-most 5 (sum (result p .passed)) passed-most,
+        decimal-length 8 (result p .delay) (omega (arith, delay-most)),
+        decimal-length 5 (sum (result p .passed)) passed-most,
       )
 
 -- the number of a refusal
@@ -195,7 +180,7 @@ room-most r words room =
     (sentence-most 11 (ltb room (length (frame-words (r .frames)))) nothing (omega arith) no-refusal)
 
 refused-most : (n : ℕ) → n ≤ 11 → length (refused-line n) ≤ 388100
-refused-most n l = omega (arith, refused-length n, digits-most 1 n (omega arith))
+refused-most n l = omega (arith, refused-length n, decimal-length 1 n (omega arith))
 
 answer-most : (x : Refusal) (r : Result) (n : ℕ) → Most x → answered x r ≡ turned-down n → n ≤ 11
 unfolding answered

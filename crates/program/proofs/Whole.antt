@@ -4,21 +4,17 @@ use mathlib.Core.Path.{_≡_, ap, _∙_}
 use mathlib.Core.List.{List}
 use Prim.Native.Nat.{ℕ, _≤_}
 use native.Mathlib.Omega.{arith}
-use borrow.Author.Tests.{le-ltb}
 use lib.ListN.{length, drop, length-append}
 use Rattle.lists.specs.Front.{front}
-use Rattle.model.specs.Text.{wrote, unless-refused, fitting, bytes-after}
+use Rattle.model.specs.Text.{wrote, bytes-after}
 use Rattle.model.specs.Text as m
 use Rattle.model.specs.Listing.{program-prints}
 use Rattle.listing.specs.declared.Listed.{Listed}
 use Rattle.listing.specs.declared.Listed.the-variants.{Wrote, Refused}
 use Rattle.listing.specs.Answer.{written-of, answer-of}
+use Rattle.listing.proofs.Written.{lent-enough}
 use Rattle.program.specs.Prints.{Prints, Prints-all}
 use Rattle.program.proofs.Room.{program-fits}
-
-lent-enough : (lent : ℕ) (bytes : List ℕ) → length bytes ≤ lent → written-of lent bytes ≡ wrote bytes
-unfolding written-of unless-refused fitting
-lent-enough lent bytes h = rw (le-ltb lent (length bytes) h)
 
 module _ (text before after : List ℕ) (r : Listed) (q : Prints text before after r) (enough : 388100 ≤ length before) where
   all-written : written-of (length before) (program-prints (q .reading)) ≡ wrote (program-prints (q .reading))

@@ -33,7 +33,7 @@ pub fn put_word(out: &mut [u8], at: usize, word: &[u8]) -> usize
 }
 
 // The digit of a number below ten.
-fn digit(n: u32) -> u8
+pub fn digit(n: u32) -> u8
     requires { ⌜ n < 10 ⌝ }
     ensures { λ r. ⌜ r ≡ 48 + n ⌝ }
 {

@@ -3,8 +3,8 @@
 use mathlib.Core.Path.{sym, _∙_}
 use borrow.Author.Tests.{ltb-true, ltb-false}
 use lib.ListN.{length}
-use Rattle.listing.specs.Parts.{listing-of}
-use Rattle.listing.proofs.Lines.{plan-listing}
+use Rattle.listing_parts.specs.Parts.{listing-of}
+use Rattle.listing.proofs.Written.{plan-listing}
 use Rattle.listing.proofs.Written.{refused-ten, stored-all, fits-all}
 use borrow.Author.Needs.{needs}
 use Rattle.listing.proofs.write_listing.Statement.{statement}

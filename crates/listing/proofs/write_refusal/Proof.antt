@@ -2,7 +2,7 @@
 -- Assumes nothing.
 use native.Mathlib.Omega.{arith}
 use Rattle.model.specs.Listing.{refused-line}
-use Rattle.listing.proofs.Lines.{refused-length}
+use Rattle.listing_parts.proofs.Lines.{refused-length}
 use Rattle.listing.proofs.Written.{refused-ten, stored-all, fits-all}
 use borrow.Author.Needs.{needs}
 use Rattle.listing.proofs.write_refusal.Statement.{statement}

@@ -1,0 +1,44 @@
+-- `listing_column::put_values` meets its contract: where the word of the known conditions is one of the sets, it has no bit past the sixth and none past the plan's conditions.
+-- Assumes nothing.
+use native.Mathlib.Omega.{arith}
+use Rattle.listing_parts.proofs.Cases.{values-same}
+use borrow.Author.Needs.{needs}
+use Rattle.listing_column.proofs.put_values.Statement.{statement}
+use Rattle.listing_column.proofs.put_values.Tie as tie
+
+known-sets-requires : tie.Need-known-sets-requires
+known-sets-requires c κs = search needs
+
+put-six-requires : tie.Need-put-six-requires
+put-six-requires c κs =
+    let a = c .before .before .before .before in
+    rw (values-same (a .args .conditions) 6 (a .args .known) (a .args .values) 0 (omega (arith, c .before .before .known-sets .ensures .1)) (omega (arith, c .before .before .known-sets .ensures .0))) at (a .pre)
+
+same-length : tie.Need-same-length
+same-length c = search needs
+
+returns : tie.Need-returns
+returns c =
+    let a = c .before .before .before .before .before .before .before in
+    rw (values-same (a .args .conditions) 6 (a .args .known) (a .args .values) 0 (omega (arith, c .before .before .before .before .before .known-sets .ensures .1)) (omega (arith, c .before .before .before .before .before .known-sets .ensures .0))) (c .before .before .put-six .ensures)
+
+put-each-requires : tie.Need-put-each-requires
+put-each-requires c κs = search needs
+
+same-length-2 : tie.Need-same-length-2
+same-length-2 c = search needs
+
+returns-2 : tie.Need-returns-2
+returns-2 c = search needs
+
+pub put-values-spec : {M : Type 1} → statement M
+put-values-spec =
+    tie.close
+    (tie.spec
+    known-sets-requires
+    put-six-requires
+    same-length
+    returns
+    put-each-requires
+    same-length-2
+    returns-2)

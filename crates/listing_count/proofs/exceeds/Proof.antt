@@ -1,0 +1,77 @@
+-- `listing_count::exceeds` meets its contract: where any listing of so many words fits, this one does. Otherwise the room is the bytes lent and one more, and it is used up where
+-- the listing needs more.
+-- Assumes nothing.
+use mathlib.Core.Path.{sym}
+use native.Mathlib.Omega.{arith}
+use lib.ListN.{length}
+use Prim.Native.Nat.{_+_}
+use borrow.Author.Tests.{lt-ltb, le-ltb}
+use Rattle.model.specs.Text.{decimal}
+use Rattle.listing_parts.specs.Parts.{entries-text, frames-text, listing-of}
+use Rattle.listing_parts.proofs.Lengths.{listing-length, used-up}
+use Rattle.listing_parts.proofs.Most.{Ten-digits, listing-most}
+use borrow.Author.Needs.{needs}
+use Rattle.listing_count.proofs.exceeds.Statement.{statement}
+use Rattle.listing_count.proofs.exceeds.Tie as tie
+
+suffice-requires : tie.Need-suffice-requires
+suffice-requires c κs = search needs
+
+returns : tie.Need-returns
+returns c =
+    let s = c .before .suffice .ensures (c .if1 .taken) in
+    let k = c .before .before in
+    let a = c .before .before .before .before .args in
+    let table : Ten-digits (a .table .now) = λ i. omega (arith, k .before .shared-slice-known .given i) in
+    let frames : Ten-digits (a .frames .now) = λ i. omega (arith, k .shared-slice-known2 .given i) in
+    sym (le-ltb (a .lent) (length (listing-of (a .processes) (a .edges) (a .conditions) (a .delay) (a .passed) (a .table .now) (a .frames .now))) (omega (arith, s .1, listing-most (a .processes) (a .edges) (a .conditions) (a .delay) (a .passed) (a .table .now) (a .frames .now) (s .0) (omega arith) (omega arith) table frames)))
+
+digits-requires : tie.Need-digits-requires
+digits-requires c κs = search needs
+
+add-head : tie.Need-add-head
+add-head c = search needs
+
+digits-requires-2 : tie.Need-digits-requires-2
+digits-requires-2 c κs = search needs
+
+add-head-2 : tie.Need-add-head-2
+add-head-2 c = search needs
+
+returns-2 : tie.Need-returns-2
+returns-2 c =
+    let a = c .before .before .before .before .before .before .before .args in
+    sym (lt-ltb (a .lent) (length (listing-of (a .processes) (a .edges) (a .conditions) (a .delay) (a .passed) (a .table .now) (a .frames .now))) (omega (arith, listing-length (a .processes) (a .edges) (a .conditions) (a .delay) (a .passed) (a .table .now) (a .frames .now), c .before .digits2 .ensures .0, c .before .before .digits .ensures .0)))
+
+add-entries-room : tie.Need-add-entries-room
+add-entries-room c = search needs
+
+entries-room-requires : tie.Need-entries-room-requires
+entries-room-requires c κs = search needs
+
+frames-room-requires : tie.Need-frames-room-requires
+frames-room-requires c κs = search needs
+
+returns-3 : tie.Need-returns-3
+returns-3 c =
+    let a = c .before .before .before .before .before .before .before .before .before .args in
+    let d = c .before .before .before .before .digits .ensures .0 in
+    let q = c .before .before .before .digits2 .ensures .0 in
+    rw (c .frames-room .ensures, c .before .entries-room .ensures, d, q, listing-length (a .processes) (a .edges) (a .conditions) (a .delay) (a .passed) (a .table .now) (a .frames .now))
+    (used-up (a .lent) (19 + length (decimal (a .delay)) + length (decimal (a .passed))) (length (entries-text (a .processes) (a .edges) (a .conditions) (a .table .now))) (length (frames-text (a .frames .now))) (omega (arith, d, q)))
+
+pub exceeds-spec : {M : Type 1} → statement M
+exceeds-spec =
+    tie.close
+    (tie.spec
+    suffice-requires
+    returns
+    digits-requires
+    add-head
+    digits-requires-2
+    add-head-2
+    returns-2
+    add-entries-room
+    entries-room-requires
+    frames-room-requires
+    returns-3)

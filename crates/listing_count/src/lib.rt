@@ -1,0 +1,242 @@
+// How many bytes a listing needs, counted line by line with no store: each function takes a room, and answers what its text leaves of it,
+// or 0 where the text needs more. Nothing is counted where the lent bytes suffice for any listing of as many words.
+ghost use mathlib.Core.Path.{_≡_};
+ghost use mathlib.Core.Bool.{true};
+ghost use Prim.Native.Nat.{_-_, _≤_};
+ghost use lib.Dec.{ltb};
+ghost use lib.ListN.{length};
+ghost use Rattle.model.specs.Text.{text, decimal};
+ghost use Rattle.listing_parts.specs.Parts.{most-bytes, value-at, values-from, start-of, item-of, entry-of, entries-text, frame-of, frames-text, listing-of};
+
+// What is left of a room that n bytes are taken from.
+fn less(room: usize, n: usize) -> usize
+    ensures { λ r. ⌜ r ≡ room - n ⌝ }
+{
+    if room < n {
+        return 0;
+    }
+    room - n
+}
+
+// How many decimal digits a number has.
+pub fn digits(n: u32) -> usize
+    ensures { λ r. ⌜ (r ≡ length (decimal n)) × (r ≤ 10) ⌝ }
+{
+    if n < 10 {
+        return 1;
+    }
+    if n < 100 {
+        return 2;
+    }
+    if n < 1000 {
+        return 3;
+    }
+    if n < 10000 {
+        return 4;
+    }
+    if n < 100000 {
+        return 5;
+    }
+    if n < 1000000 {
+        return 6;
+    }
+    if n < 10000000 {
+        return 7;
+    }
+    if n < 100000000 {
+        return 8;
+    }
+    if n < 1000000000 {
+        return 9;
+    }
+    10
+}
+
+// The room after condition k of a column: the lowest bits of `known` and `values` are its.
+fn value_room(room: usize, known: u32, values: u32, k: u32) -> usize
+    ensures { λ r. ⌜ r ≡ room - length (value-at known values k) ⌝ }
+{
+    if known % 2 == 0 {
+        return room;
+    }
+    if values % 2 == 0 {
+        return less(room, 9 + digits(k));
+    }
+    less(room, 8 + digits(k))
+}
+
+// The room after the conditions of a column.
+fn values_room(room: usize, conditions: usize, known: u32, values: u32) -> usize
+    ensures { λ r. ⌜ r ≡ room - length (values-from conditions known values 0) ⌝ }
+{
+    let mut left = room;
+    let mut x = known;
+    let mut v = values;
+    let mut k: u32 = 0;
+    while x != 0 {
+        if conditions <= k as usize {
+            return left;
+        }
+        left = value_room(left, x, v, k);
+        x = x / 2;
+        v = v / 2;
+        k += 1;
+    }
+    left
+}
+
+// The room after the line of a process.
+fn start_room(room: usize, conditions: usize, row: u32, known: u32, values: u32, tick: u32) -> usize
+    ensures { λ r. ⌜ r ≡ room - length (start-of conditions row known values tick) ⌝ }
+{
+    let column = values_room(room, conditions, known, values);
+    less(column, 22 + digits(row) + digits(tick))
+}
+
+// The room after the line of an edge or a condition: their first words are of one length.
+fn item_room(
+    room: usize,
+    conditions: usize,
+    number: u32,
+    known: u32,
+    values: u32,
+    tick: u32,
+    place: u32,
+) -> usize
+    ensures { λ r. ⌜ r ≡ room - length (item-of (text "(send ") conditions number known values tick place) ⌝ }
+{
+    let column = values_room(room, conditions, known, values);
+    less(column, 30 + digits(number) + digits(tick) + digits(place))
+}
+
+// The room after the line of an entry.
+fn entry_room(
+    room: usize,
+    processes: usize,
+    edges: usize,
+    conditions: usize,
+    row: u32,
+    known: u32,
+    values: u32,
+    tick: u32,
+    place: u32,
+) -> usize
+    ensures { λ r. ⌜ r ≡ room - length (entry-of processes edges conditions row known values tick place) ⌝ }
+{
+    let number = row as usize;
+    if number < processes {
+        return start_room(room, conditions, row, known, values, tick);
+    }
+    let edge = number - processes;
+    if edge < edges {
+        return item_room(room, conditions, edge as u32, known, values, tick, place);
+    }
+    let condition = edge - edges;
+    if condition < conditions {
+        return item_room(
+            room,
+            conditions,
+            condition as u32,
+            known,
+            values,
+            tick,
+            place,
+        );
+    }
+    room
+}
+
+// The room after the lines of a table.
+fn entries_room(
+    room: usize,
+    processes: usize,
+    edges: usize,
+    conditions: usize,
+    table: &[u32],
+) -> usize
+    ensures { λ r. ⌜ r ≡ room - length (entries-text processes edges conditions (now (table .entry))) ⌝ }
+{
+    let n = table.len();
+    let mut left = room;
+    let mut i: usize = 0;
+    while 4 < n - i {
+        left = entry_room(
+            left,
+            processes,
+            edges,
+            conditions,
+            table[i],
+            table[i + 1],
+            table[i + 2],
+            table[i + 3],
+            table[i + 4],
+        );
+        i += 5;
+    }
+    left
+}
+
+// The room after the line of a frame.
+fn frame_room(room: usize, tick: u32, node: u32, used: u32) -> usize
+    ensures { λ r. ⌜ r ≡ room - length (frame-of tick node used) ⌝ }
+{
+    less(room, 26 + digits(tick) + digits(node) + digits(used))
+}
+
+// The room after the lines of a frame list.
+fn frames_room(room: usize, frames: &[u32]) -> usize
+    ensures { λ r. ⌜ r ≡ room - length (frames-text (now (frames .entry))) ⌝ }
+{
+    let n = frames.len();
+    let mut left = room;
+    let mut i: usize = 0;
+    while 2 < n - i {
+        left = frame_room(left, frames[i], frames[i + 1], frames[i + 2]);
+        i += 3;
+    }
+    left
+}
+
+// The lent bytes suffice for any listing of so many words, for a plan of at most six conditions: an entry's line has at most 120 bytes, a frame's at most 56,
+// the first two lines at most 39. Where this answers no they may suffice all the same.
+fn suffice(lent: usize, conditions: usize, words: usize, framewords: usize) -> bool
+    ensures { λ r. ⌜ (r ≡ true → (conditions ≤ 6) × (most-bytes words framewords ≤ lent)) ⌝ }
+{
+    if 6 < conditions {
+        return false;
+    }
+    if 1000000 < words {
+        return false;
+    }
+    if 1000000 < framewords {
+        return false;
+    }
+    if lent < 39 + 120 * (words / 5) + 56 * (framewords / 3) {
+        return false;
+    }
+    true
+}
+
+// A listing needs more bytes than are lent.
+pub fn exceeds<'a>(
+    lent: usize,
+    processes: usize,
+    edges: usize,
+    conditions: usize,
+    delay: u32,
+    passed: u32,
+    table: &'a [u32],
+    frames: &'a [u32],
+) -> bool
+    ensures { λ r. ⌜ r ≡ ltb lent (length (listing-of processes edges conditions delay passed (now (table .entry)) (now (frames .entry)))) ⌝ }
+{
+    if suffice(lent, conditions, table.len(), frames.len()) {
+        return false;
+    }
+    let head = 19 + digits(delay) + digits(passed);
+    if lent < head {
+        return true;
+    }
+    let room = entries_room(lent - head + 1, processes, edges, conditions, table);
+    frames_room(room, frames) < 1
+}
