@@ -1,18 +1,18 @@
 -- A table is answered by what the text reads as and what the checker finds, in both cases of the reader's answer.
 -- Assumes nothing.
-use mathlib.Core.Path.{_≡_, refl, ap, _∙_, subst}
+use mathlib.Core.Path.{_≡_, refl, ap, _∙_}
 use mathlib.Core.List.{List}
 use Prim.Native.Nat.{ℕ, _-_}
 use Rattle.model.specs.Refusals as m
 use Rattle.model.specs.Refusals.{nothing, refused}
-use Rattle.model.specs.Text.{reads, not-read, after-refusal, Answers-text}
+use Rattle.model.specs.Text.{reads, not-read, Answers-text}
 use Rattle.model.specs.Firmware.{words-of}
 use Rattle.model.specs.Checking.{table-refusal}
 use Rattle.plan.specs.Memory.{lines}
-use Rattle.plan.specs.Refusing.{refusal-of}
 use Rattle.plan.specs.declared.refusals.Refusal.the-variants.{Nothing, Refused}
 use Rattle.plan_reader.specs.Answer.{reading-of}
 use Rattle.plan_reader.specs.declared.Read.{Read}
+use Rattle.plan_reader.proofs.Told.{told-refused, told-read}
 use Rattle.checker.specs.declared.Checked.{Checked}
 use Rattle.checker.specs.Checker.{answer-of}
 use Rattle.capi.specs.Checks.{checked-of, checked-number, checked-answer, Checks}
@@ -24,20 +24,20 @@ same-number (refused n) = refl
 
 module _ (text : List ℕ) (r : Read) (told : Answers-text text (reading-of r)) (table : List ℕ) (delay answer : ℕ) where
   pub refused-checks : (k : ℕ) → r .refusal ≡ Refused k → answer ≡ 18446744073709551615 - k → Checks text table delay answer
-  unfolding reading-of after-refusal checked-of checked-number
+  unfolding checked-of checked-number
   refused-checks k e q =
       record {
         reading = not-read k;
-        of-text = subst (Answers-text text) (ap (λ x. after-refusal (refusal-of x) (lines (r .plan))) e) told;
+        of-text = told-refused text r told k e;
         number = q;
       }
 
   pub read-checks : (c : Checked) → r .refusal ≡ Nothing → c ≡ answer-of (table-refusal (lines (r .plan)) (words-of table) delay) → answer ≡ checked-answer c →
       Checks text table delay answer
-  unfolding reading-of after-refusal checked-of
+  unfolding checked-of
   read-checks c e q a =
       record {
         reading = reads (lines (r .plan));
-        of-text = subst (Answers-text text) (ap (λ x. after-refusal (refusal-of x) (lines (r .plan))) e) told;
+        of-text = told-read text r told e;
         number = a ∙ ap checked-answer q ∙ same-number (table-refusal (lines (r .plan)) (words-of table) delay);
       }

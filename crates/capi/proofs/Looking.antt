@@ -1,19 +1,19 @@
 -- A text that was read has a plan in which refusals 2 to 9 find nothing. And the lookup is answered by what the text reads as, in both
 -- cases of the reader's answer.
 -- Assumes nothing.
-use mathlib.Core.Path.{_≡_, refl, ap, _∙_, subst}
+use mathlib.Core.Path.{_≡_, refl, ap, _∙_}
 use mathlib.Core.List.{List}
 use Prim.Native.Nat.{ℕ, _-_}
 use Rattle.model.specs.Refusals.{nothing, plan-refusal}
-use Rattle.model.specs.Text.{reads, not-read, after-refusal, Answers-text}
+use Rattle.model.specs.Text.{reads, not-read, Answers-text}
 use Rattle.model.specs.Lookup.{entry, none, refusal, lookup}
 use Rattle.model.specs.Lookup as m
 use Rattle.model.specs.Firmware.{words-of, found-number, found-in, Answers-lookup}
 use Rattle.plan.specs.Memory.{lines}
-use Rattle.plan.specs.Refusing.{refusal-of}
 use Rattle.plan.specs.declared.refusals.Refusal.the-variants.{Nothing, Refused}
 use Rattle.plan_reader.specs.Answer.{reading-of}
 use Rattle.plan_reader.specs.declared.Read.{Read}
+use Rattle.plan_reader.proofs.Told.{told-refused, told-read}
 use Rattle.plan_writer.proofs.Read.{of-read}
 use Rattle.kernel.specs.declared.Found.{Found}
 use Rattle.kernel.specs.Finding.{found-of}
@@ -27,25 +27,24 @@ same-number (refusal n) = refl
 
 module _ (text : List ℕ) (r : Read) (told : Answers-text text (reading-of r)) where
   pub accepted : r .refusal ≡ Nothing → plan-refusal (lines (r .plan)) ≡ nothing
-  unfolding reading-of after-refusal
-  accepted e = of-read text (reading-of r) (lines (r .plan)) told (ap (λ x. after-refusal (refusal-of x) (lines (r .plan))) e) .0
+  accepted e = of-read text (reads (lines (r .plan))) (lines (r .plan)) (told-read text r told e) refl .0
 
   module _ (table : List ℕ) (n t h v first answer : ℕ) where
     pub refused-lookup : (k : ℕ) → r .refusal ≡ Refused k → answer ≡ 18446744073709551615 - k → Answers-lookup text table n t h v first answer
-    unfolding reading-of after-refusal found-number found-in
+    unfolding found-number found-in
     refused-lookup k e q =
         record {
           reading = not-read k;
-          of-text = subst (Answers-text text) (ap (λ x. after-refusal (refusal-of x) (lines (r .plan))) e) told;
+          of-text = told-refused text r told k e;
           is-found = q;
         }
 
     pub read-lookup : (f : Found) → r .refusal ≡ Nothing → f ≡ found-of (lookup (lines (r .plan)) (words-of table) n t h v first) → answer ≡ found-answer f →
         Answers-lookup text table n t h v first answer
-    unfolding reading-of after-refusal found-in
+    unfolding found-in
     read-lookup f e q a =
         record {
           reading = reads (lines (r .plan));
-          of-text = subst (Answers-text text) (ap (λ x. after-refusal (refusal-of x) (lines (r .plan))) e) told;
+          of-text = told-read text r told e;
           is-found = a ∙ ap found-answer q ∙ same-number (lookup (lines (r .plan)) (words-of table) n t h v first);
         }

@@ -5,6 +5,7 @@ use checker::Checked;
 use checker::check_words;
 use checker::ill_formed;
 use plan::Plan;
+use words::entry_words;
 use words::read_words;
 ghost use mathlib.Core.Path.{_≡_};
 ghost use Prim.Native.Nat.{_+_, _%_, _<_, _≤_};
@@ -17,13 +18,6 @@ ghost use Rattle.model.specs.Checking.{table-refusal};
 ghost use Rattle.plan.specs.Memory.{lines};
 ghost use Rattle.met.specs.Table.{entry-from};
 ghost use Rattle.checker.specs.Checker.{answer-of, ill-formed-by};
-
-// The words of 12,672 entries: no sound table has more.
-fn entry_words() -> [u32; 63360]
-    ensures { λ r. ⌜ length r ≡ 63360 ⌝ }
-{
-    [0u32; 63360]
-}
 
 // Checks a table of at most 12,672 entries: its n words are copied and checked.
 fn check_few(p: Plan, bytes: &[u8], n: usize, delay: u64) -> Checked

@@ -9,7 +9,7 @@ use native.Mathlib.Omega.{arith}
 use lib.Dec.{eqb}
 use lib.ListN.{length, getD, replicate, length-append, length-map}
 use Rattle.lists.specs.Lists.{if_then_else_, keep, below, greatest}
-use Rattle.lists.proofs.Parts.{keep-short}
+use Rattle.lists.proofs.Counts.{keep-short}
 use Rattle.model.specs.Plan.{Lines, Slot}
 use Rattle.model.specs.Bus.{condition-row, beginning}
 use Rattle.model.specs.Planning.{View, passes-over, step, before, bound, planned}

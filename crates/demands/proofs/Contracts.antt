@@ -49,10 +49,10 @@ use Rattle.row_query.proofs.row_entries.Reads as the-row
 use Rattle.row_query.proofs.row_entries.Kinds as the-row-kinds
 use Rattle.capi.proofs.riscadru_copy_plan.Reads as the-c-copy
 use Rattle.capi.proofs.riscadru_copy_plan.Kinds as the-c-copy-kinds
-use Rattle.capi.proofs.riscadru_plan_table.Reads as the-c-plan
-use Rattle.capi.proofs.riscadru_plan_table.Kinds as the-c-plan-kinds
-use Rattle.capi.proofs.riscadru_plan_listing.Reads as the-c-print
-use Rattle.capi.proofs.riscadru_plan_listing.Kinds as the-c-print-kinds
+use Rattle.capi.proofs.planning.riscadru_plan_table.Reads as the-c-plan
+use Rattle.capi.proofs.planning.riscadru_plan_table.Kinds as the-c-plan-kinds
+use Rattle.capi.proofs.planning.riscadru_plan_listing.Reads as the-c-print
+use Rattle.capi.proofs.planning.riscadru_plan_listing.Kinds as the-c-print-kinds
 use Rattle.capi.proofs.checking.riscadru_check_table.Reads as the-c-check
 use Rattle.capi.proofs.checking.riscadru_check_table.Kinds as the-c-check-kinds
 use Rattle.capi.proofs.lookup.riscadru_lookup.Reads as the-c-lookup

@@ -33,7 +33,8 @@ use Rattle.checker.specs.declared.Checked.{Checked}
 use Rattle.checker.specs.declared.Checked.the-variants as checked
 use Rattle.checker.specs.Checker as checker
 use Rattle.capi.specs.Copy.{written-number}
-use Rattle.capi.specs.Tables.{table-number, table-bytes-after, frame-bytes-after, totals-after, Puts}
+use Rattle.capi.specs.Tables.{table-number, Puts}
+use Rattle.plan_bytes.specs.Filled.{table-bytes-after, frame-bytes-after, totals-after}
 use Rattle.demands.specs.Sentences.{In-number}
 use Rattle.demands.proofs.Firsts.{Told, number-refused, number-result}
 
@@ -103,8 +104,8 @@ module _ (q : Result) (table frames totals table-now frames-now totals-now : Lis
       Puts (answered (sentence 10 b (sentence 11 c nothing)) q) table frames totals table-now frames-now totals-now answer →
       Told (In-number answer) ((table-now ≡ table) × (frames-now ≡ frames) × (totals-now ≡ totals)) (answer ≤ length table) (sentence 10 b (sentence 11 c nothing))
   unfolding answered table-number table-bytes-after frame-bytes-after totals-after
-  told-table true c t l s = number-refused Unchanged (answer ≤ length table) answer 10 (omega arith) (omega arith) (s .number) (s .table-bytes, s .frame-bytes, s .total-bytes)
-  told-table false true t l s = number-refused Unchanged (answer ≤ length table) answer 11 (omega arith) (omega arith) (s .number) (s .table-bytes, s .frame-bytes, s .total-bytes)
+  told-table true c t l s = number-refused Unchanged (answer ≤ length table) answer 10 (omega arith) (omega arith) (s .number) (s .bytes .table-bytes, s .bytes .frame-bytes, s .bytes .total-bytes)
+  told-table false true t l s = number-refused Unchanged (answer ≤ length table) answer 11 (omega arith) (omega arith) (s .number) (s .bytes .table-bytes, s .bytes .frame-bytes, s .bytes .total-bytes)
   told-table false false t l s =
       let e : answer ≡ 4 * length (entry-words (q .entries)) = s .number in
       number-result Unchanged (answer ≤ length table) answer (omega arith) (omega (arith, ltb-false (length table / 4) (length (entry-words (q .entries))) t))
@@ -112,7 +113,7 @@ module _ (q : Result) (table frames totals table-now frames-now totals-now : Lis
   pub told-turned : (n : ℕ) → 1 ≤ n → n ≤ 20 → Puts (answered (refused n) q) table frames totals table-now frames-now totals-now answer →
       Told (In-number answer) ((table-now ≡ table) × (frames-now ≡ frames) × (totals-now ≡ totals)) (answer ≤ length table) (refused n)
   unfolding answered table-number table-bytes-after frame-bytes-after totals-after
-  told-turned n l k s = number-refused Unchanged (answer ≤ length table) answer n l k (s .number) (s .table-bytes, s .frame-bytes, s .total-bytes)
+  told-turned n l k s = number-refused Unchanged (answer ≤ length table) answer n l k (s .number) (s .bytes .table-bytes, s .bytes .frame-bytes, s .bytes .total-bytes)
 
 -- the checker's answer
 pub told-checked : (x : m.Refusal) (r : Checked) → r ≡ checker.answer-of x → Told (λ n. r ≡ checked.Refused n) (Unit {0}) (r ≡ checked.Accepted) x

@@ -35,10 +35,11 @@ use Rattle.planner.proofs.Sound.{made-fine}
 use Rattle.listing.specs.declared.Listed.the-variants as listed
 use Rattle.listing.specs.Answer as listing
 use Rattle.program.specs.Prints.{Prints}
-use Rattle.program.proofs.Printing.{Was-made, was-made}
+use Rattle.planner.proofs.Given.{Was-made, was-made}
 use Rattle.capi.specs.Copy.{copy, written-number, Copies}
 use Rattle.capi.specs.Listing.{Lists}
-use Rattle.capi.specs.Tables.{planned-of, table-number, table-bytes-after, frame-bytes-after, totals-after, Puts, Tables}
+use Rattle.capi.specs.Tables.{planned-of, table-number, Puts, Tables}
+use Rattle.plan_bytes.specs.Filled.{table-bytes-after, frame-bytes-after, totals-after}
 use Rattle.demands.specs.Sentences.{Sentence, first, bytes-sentences, room-sentences, Keeps-to}
 use Rattle.demands.specs.Two.{Not-refused, Scheduled, Scheduled-bytes, plan-listing, Plans, Demand-2}
 use Rattle.demands.proofs.Firsts.{plan-first, bytes-first, room-first, plan-then, by-text}
@@ -128,15 +129,16 @@ module _ (text table frames totals table-now frames-now totals-now : List ℕ) (
   abbrev Given : Type 0
   Given = (p : Lines) × Means text p × Scheduled-bytes p table frames totals table-now frames-now totals-now answer
 
-  given : (p : Lines) → Means text p → plan-refusal p ≡ nothing → first (room-sentences (result p) (length table / 4) (length frames / 4)) ≡ nothing →
-      Puts (plan-answer p (length table / 4) (length frames / 4)) table frames totals table-now frames-now totals-now answer → Given
+  pub scheduled-bytes : (p : Lines) → plan-refusal p ≡ nothing → first (room-sentences (result p) (length table / 4) (length frames / 4)) ≡ nothing →
+      Puts (plan-answer p (length table / 4) (length frames / 4)) table frames totals table-now frames-now totals-now answer →
+      Scheduled-bytes p table frames totals table-now frames-now totals-now answer
   unfolding plan-answer or-else answered table-number table-bytes-after frame-bytes-after totals-after
-  given p m fine f c =
+  scheduled-bytes p fine f c =
       let w : plan-answer p (length table / 4) (length frames / 4) ≡ made (result p) =
       rw (fine, sym (room-first (result p) (length table / 4) (length frames / 4)), f) in
       let u : Puts (made (result p)) table frames totals table-now frames-now totals-now answer =
       subst (λ (a : Answer). Puts a table frames totals table-now frames-now totals-now answer) w c in
-      (p, m, record { start-table = u .table-bytes; frame-list = u .frame-bytes; total-words = u .total-bytes; count = u .number })
+      record { start-table = u .bytes .table-bytes; frame-list = u .bytes .frame-bytes; total-words = u .bytes .total-bytes; count = u .number }
 
   c-scheduled : Tables text table frames totals table-now frames-now totals-now answer → Not-refused answer → Given
   unfolding planned-of
@@ -144,7 +146,7 @@ module _ (text table frames totals table-now frames-now totals-now : List ℕ) (
       let x =
       by-text text (λ p. room-sentences (result p) (length table / 4) (length frames / 4))
       (λ s x. x ≡ nothing → Puts (planned-of s (length table / 4) (length frames / 4)) table frames totals table-now frames-now totals-now answer → Given) (c .reading) (c .of-text)
-      (λ n l k f. absurd (let z : _≡_ {A = ℕ} 0 1 = cc in omega arith)) (λ p m fine f u. given p m fine f u) in
+      (λ n l k f. absurd (let z : _≡_ {A = ℕ} 0 1 = cc in omega arith)) (λ p m fine f u. (p, m, scheduled-bytes p fine f u)) in
       x .2 (none-applies (c-planning text table frames totals table-now frames-now totals-now answer c) not (x .0) (x .1)) (c .puts)
 
 -- neither of two refusals

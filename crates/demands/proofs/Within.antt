@@ -8,6 +8,7 @@ use native.Mathlib.Omega.{arith}
 use lib.Dec.{eqb}
 use lib.ListN.{length, take, drop, length-drop}
 use Rattle.lists.specs.Lists.{if_then_else_}
+use Rattle.lists.proofs.Counts.{take-most}
 use Rattle.model.specs.Plan.{Lines}
 use Rattle.model.specs.Table.{Entry, entries-of}
 use Rattle.model.specs.Lookup.{Found, entry, none, before-row, run-of-row, row-length, row-start, row-part, fits, find}
@@ -75,11 +76,6 @@ before-few r (e ∷ es) = at (eqb (e .row) r) (before-few r es)
 start-most : (b : Bool) (n : ℕ) → (if b then 0 else n) ≤ n
 start-most true n = omega arith
 start-most false n = omega arith
-
-take-most : (n : ℕ) (xs : List ℕ) → length (take n xs) ≤ n
-take-most zero xs = omega arith
-take-most (suc n) [] = omega arith
-take-most (suc n) (x ∷ xs) = let l = take-most n xs in omega arith
 
 pub row-within : (ws : List ℕ) (r : ℕ) → row-start ws r + row-length ws r ≤ length ws
 unfolding row-start row-length

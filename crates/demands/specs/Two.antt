@@ -35,7 +35,8 @@ use Rattle.listing.specs.declared.Listed.the-variants as listed
 use Rattle.program.specs.Prints.{Prints}
 use Rattle.capi.specs.Copy.{Copies}
 use Rattle.capi.specs.Listing.{Lists}
-use Rattle.capi.specs.Tables.{totals-of, Tables}
+use Rattle.capi.specs.Tables.{Tables}
+use Rattle.plan_bytes.specs.Filled.{totals-of}
 use Rattle.demands.specs.Sentences.{First-of, plan-sentences, room-sentences, In-number}
 
 -- "highest first, ties to the lower number": x goes before y by a weight

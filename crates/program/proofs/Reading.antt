@@ -1,17 +1,17 @@
 -- A text is answered by what it reads as, in both cases of the reader's answer.
 -- Assumes nothing.
-use mathlib.Core.Path.{_≡_, ap, _∙_, subst}
+use mathlib.Core.Path.{_≡_, _∙_}
 use mathlib.Core.List.{List}
 use Prim.Native.Nat.{ℕ}
 use lib.ListN.{length}
-use Rattle.model.specs.Text.{reads, not-read, after-refusal, Answers-text, bytes-after}
+use Rattle.model.specs.Text.{reads, not-read, Answers-text, bytes-after}
 use Rattle.model.specs.Table.{plan-answer}
 use Rattle.model.specs.Listing.{refused-line, printed, program-prints}
 use Rattle.plan.specs.Memory.{lines}
-use Rattle.plan.specs.Refusing.{refusal-of}
 use Rattle.plan.specs.declared.refusals.Refusal.the-variants.{Nothing, Refused}
 use Rattle.plan_reader.specs.Answer.{reading-of}
 use Rattle.plan_reader.specs.declared.Read.{Read}
+use Rattle.plan_reader.proofs.Told.{told-refused, told-read}
 use Rattle.listing.specs.declared.Listed.{Listed}
 use Rattle.listing.specs.Answer.{written-of, answer-of}
 use Rattle.program.specs.Prints.{Prints}
@@ -19,11 +19,11 @@ use Rattle.program.specs.Prints.{Prints}
 module _ (text before after : List ℕ) (r : Read) (told : Answers-text text (reading-of r)) (l : Listed) where
   pub refused-prints : (n : ℕ) → r .refusal ≡ Refused n → l ≡ answer-of (written-of (length before) (refused-line n)) →
       after ≡ bytes-after (written-of (length before) (refused-line n)) before → Prints text before after l
-  unfolding reading-of after-refusal program-prints
+  unfolding program-prints
   refused-prints n e a b =
       record {
         reading = not-read n;
-        of-text = subst (Answers-text text) (ap (λ x. after-refusal (refusal-of x) (lines (r .plan))) e) told;
+        of-text = told-refused text r told n e;
         answer = a;
         bytes = b;
       }
@@ -31,11 +31,11 @@ module _ (text before after : List ℕ) (r : Read) (told : Answers-text text (re
   pub read-prints : (words room : ℕ) → words ≡ 15000 → room ≡ 6000 → r .refusal ≡ Nothing →
       l ≡ answer-of (written-of (length before) (printed (lines (r .plan)) (plan-answer (lines (r .plan)) words room))) →
       after ≡ bytes-after (written-of (length before) (printed (lines (r .plan)) (plan-answer (lines (r .plan)) words room))) before → Prints text before after l
-  unfolding reading-of after-refusal program-prints
+  unfolding program-prints
   read-prints words room w f e a b =
       record {
         reading = reads (lines (r .plan));
-        of-text = subst (Answers-text text) (ap (λ x. after-refusal (refusal-of x) (lines (r .plan))) e) told;
+        of-text = told-read text r told e;
         answer = a ∙ (λ i. answer-of (written-of (length before) (printed (lines (r .plan)) (plan-answer (lines (r .plan)) (w i) (f i)))));
         bytes = b ∙ (λ i. bytes-after (written-of (length before) (printed (lines (r .plan)) (plan-answer (lines (r .plan)) (w i) (f i)))) before);
       }

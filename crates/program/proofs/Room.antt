@@ -4,21 +4,18 @@
 use mathlib.Core.Path.{_≡_, refl, sym, ap, _∙_, subst}
 use mathlib.Core.Bool.{Bool, true, false}
 use mathlib.Core.List.{List, List·Memᴰ as In}
-use Prim.Native.Nat.{ℕ, _+_, _-_, _*_, _^_, _≤_, _<_}
-use native.Mathlib.Nat.{pow-le-pow-right}
+use Prim.Native.Nat.{ℕ, _+_, _*_, _≤_, _<_}
 use native.Mathlib.Omega.{arith}
 use borrow.Author.Tests.{ltb-false}
 use lib.Dec.{eqb, ltb}
-use lib.ListN.{length, length-map}
+use lib.ListN.{length}
 use Rattle.lists.specs.Lists.{any, keep, each, below, sum}
-use Rattle.lists.proofs.Members.{map-in}
 use Rattle.lists.proofs.Keep.{length-upfrom}
-pub use Rattle.lists.proofs.Parts.{keep-short}
-use Rattle.lists.proofs.Sums.{greatest-le, sum-most-in, length-each}
+use Rattle.lists.proofs.Counts.{keep-short}
+use Rattle.lists.proofs.Sums.{sum-most-in, length-each}
 use Rattle.model.specs.Plan.{Lines, process, edges}
-use Rattle.model.specs.Activity.{combinations}
 use Rattle.model.specs.Bus.{sender, row-node, row-bytes, slot-of}
-use Rattle.model.specs.Log.{Placed, full-ticks, delay}
+use Rattle.model.specs.Log.{Placed}
 use Rattle.model.specs.Planning.{State, bound, planned}
 use Rattle.model.specs.Refusals.{Refusal, nothing, refused, sentence, or-else, plan-refusal, wrong-counts, wrong-sizes, wrong-nodes, wrong-deciders, wrong-ends, twin-edges, wrong-when, too-long}
 use Rattle.model.specs.Table.{Entry, Frame, Answer, turned-down, made, Result, result, Planned, plans, passed-by, entry-of, entry-words, frame-words, answered, room-refusal, plan-answer}
@@ -26,8 +23,7 @@ use Rattle.model.specs.Text.{Reading, after-refusal, Answers-text, of-no-form, 
 use Rattle.model.specs.Text as m
 use Rattle.model.specs.Listing.{refused-line, printed, program-prints}
 use Rattle.grammar.proofs.Numbers.{decimal-length}
-use Rattle.laws.proofs.Bound.{bound-small, delay-within}
-use Rattle.laws.proofs.Combinations.{combination-length}
+use Rattle.laws.proofs.Bound.{bound-small}
 use Rattle.laws.proofs.Entries.{final, Made, entries-in}
 use Rattle.laws.proofs.Events.{passed-few}
 use Rattle.laws.proofs.Frames.{frame-used}
@@ -37,15 +33,14 @@ use Rattle.laws.proofs.Rows.{sender-in}
 use Rattle.laws.proofs.Rules.{Kept}
 use Rattle.laws.proofs.Safety.{planning-keeps}
 use Rattle.laws.proofs.Slots.{slot-in}
-use Rattle.laws.proofs.Words.{entries-back, frames-back, printed-words}
-pub use Rattle.laws.proofs.Words.{entry-words-count, frame-words-count}
-use Rattle.mask.proofs.Numbered.{combinations-count}
+use Rattle.laws.proofs.Words.{entries-back, frames-back, printed-words, entry-words-count, frame-words-count}
 use Rattle.listing_parts.specs.Parts.{entry-text, entries-text, frame-text, frames-text, listing-of}
 use Rattle.listing_parts.proofs.Digits.{one-digit}
 use Rattle.listing_parts.proofs.Lengths.{frame-length, listing-length}
 use Rattle.listing_parts.proofs.Most.{line-most}
 use Rattle.listing_parts.proofs.Lines.{refused-length, listing-same}
-use Rattle.program.proofs.Printing.{made-suffice}
+use Rattle.planner.proofs.Given.{made-suffice}
+use Rattle.planner.proofs.Most.{plans-few, plan-in, delay-most}
 
 -- the bounds of an entry of the planner's table
 record Bounded (p : Lines) (e : Entry) : Type 0 where
@@ -89,38 +84,17 @@ module _ (p : Lines) (fine : plan-refusal p ≡ nothing) where
       let o : f .used ≤ 64 = omega (arith, q .1, u .4) in
       omega (arith, frame-length (f .tick) (f .node) (f .used), decimal-length 8 (f .tick) (omega arith), one-digit (f .node) (omega arith), decimal-length 1 (f .used) (omega arith))
 
-  pub plans-few : length (plans p) ≤ 64
-  unfolding plans
-  plans-few =
-      let q : 2 ^ length (p .conditions) ≤ 2 ^ 6 = pow-le-pow-right (omega arith) (g .few-conditions) in
-      let n : length (plans p) ≡ length (combinations p) = length-map (combinations p) (λ c. record { combination = c; state = planned p c }) in
-      omega (arith, combinations-count (length (p .conditions)))
-
-  -- the combination of a plan
-  plan-in : (s : Planned) → In s (plans p) → (c : List Bool) × (length c ≡ length (p .conditions)) × (s .state ≡ planned p c)
-  unfolding plans
-  plan-in s i =
-      let c = map-in (λ c. record { combination = c; state = planned p c }) (combinations p) i in
-      (c .0, combination-length p (c .0) (c .1), ap (λ (z : Planned). z .state) (c .2))
-
-  delay-most : result p .delay ≤ 999999999
-  unfolding result
-  delay-most =
-      greatest-le (λ s. delay p (full-ticks p) (s .state .log)) 999999999 (plans p) (λ s i.
-      let c = plan-in s i in
-      omega (arith, ap (λ (z : State). delay p (full-ticks p) (z .log)) (c .2), delay-within p (c .0) fine (c .1), bound-small p g))
-
   passed-one : (n : ℕ) (s : Planned) → In s (plans p) → length (keep (eqb n) (s .state .passed)) ≤ 198
   unfolding planned
   passed-one n s i =
-      let c = plan-in s i in
+      let c = plan-in p fine s i in
       omega (arith, keep-short (eqb n) (s .state .passed), ap (λ (z : State). length (z .passed)) (c .2), passed-few p (c .0) g (c .1) (bound p), g .few-processes, g .few-edges, g .few-conditions)
 
   passed-most : sum (result p .passed) < 1000000
   unfolding result passed-by
   passed-most =
       let q = sum-most-in (passed-by (plans p)) (below (length (p .slots))) 12672 (λ n i.
-      omega (arith, sum-most-in (λ s. length (keep (eqb n) (s .state .passed))) (plans p) 198 (passed-one n), plans-few)) in
+      omega (arith, sum-most-in (λ s. length (keep (eqb n) (s .state .passed))) (plans p) 198 (passed-one n), plans-few p fine)) in
       omega (arith, length-upfrom 0 (length (p .slots)), g .few-slots)
 
   -- the listing of a result of at most 3,000 entries and 2,000 frames
@@ -142,7 +116,7 @@ module _ (p : Lines) (fine : plan-refusal p ≡ nothing) where
         listing-length P E C (result p .delay) (sum (result p .passed)) (entry-words es) (frame-words fs),
         entry-words-count es,
         frame-words-count fs,
-        decimal-length 8 (result p .delay) (omega (arith, delay-most)),
+        decimal-length 8 (result p .delay) (omega (arith, delay-most p fine)),
         decimal-length 5 (sum (result p .passed)) passed-most,
       )
 

@@ -1,7 +1,7 @@
 // Words of 32 bits in lent bytes, four bytes a word, the lowest first: so tables and frame lists are lent from C.
 ghost use mathlib.Core.Path.{_≡_};
 ghost use Prim.Native.Nat.{_+_, _*_, _<_, _≤_, min};
-ghost use lib.ListN.{length, getD, take, drop};
+ghost use lib.ListN.{length, getD, replicate, take, drop};
 ghost use lib.Seq.{sets};
 ghost use Rattle.lists.specs.Front.{front};
 ghost use Rattle.model.specs.Firmware.{words-of};
@@ -112,4 +112,11 @@ pub fn put_some<'a>(words: &'a [u32], out: &mut [u8])
         out[i] = byte_at(words, i);
         i += 1;
     }
+}
+
+// The words of 12,672 entries, all 0: no table has more, one entry for each row and combination.
+pub fn entry_words() -> [u32; 63360]
+    ensures { λ r. ⌜ r ≡ replicate 63360 0 ⌝ }
+{
+    [0u32; 63360]
 }

@@ -11,6 +11,7 @@ use Rattle.model.specs.Firmware.{words-of}
 use Rattle.model.specs.Checking.{table-refusal}
 use Rattle.plan.specs.Memory.{lines}
 use Rattle.checker.specs.Checker.{answer-of}
+use Rattle.words.proofs.Room.{entry-room}
 use Rattle.check_bytes.proofs.Copied.{copy-fits, copy-back}
 use Rattle.check_bytes.proofs.check_few.Statement.{statement}
 use Rattle.check_bytes.proofs.check_few.Tie as tie
@@ -25,13 +26,13 @@ slice-aggregate-read-words : tie.Need-slice-aggregate-read-words
 slice-aggregate-read-words c =
     let made = c .before in
     let s = made .before .before in
-    sym (length-take-le (s .args .n) (made .entry-words .result) (omega (arith, made .entry-words .ensures, s .pre .1 .1)))
+    sym (length-take-le (s .args .n) (made .entry-words .result) (omega (arith, entry-room (made .entry-words .ensures), s .pre .1 .1)))
 
 read-words-requires : tie.Need-read-words-requires
 read-words-requires c κs =
     let made = c .before in
     let s = made .before .before in
-    let l : s .args .n ≤ length (made .entry-words .result) = omega (arith, made .entry-words .ensures, s .pre .1 .1) in
+    let l : s .args .n ≤ length (made .entry-words .result) = omega (arith, entry-room (made .entry-words .ensures), s .pre .1 .1) in
     omega (arith, s .pre .1 .0, length-take-le (s .args .n) (made .entry-words .result) l)
 
 array-share-prefix-words : tie.Need-array-share-prefix-words
@@ -39,7 +40,7 @@ array-share-prefix-words c =
     let read = c .before in
     let made = read .before .before in
     let s = made .before .before in
-    copy-fits (words-of (s .args .bytes .now)) (made .entry-words .result) (s .args .n) (s .pre .1 .0) (omega (arith, made .entry-words .ensures, s .pre .1 .1)) (read .read-words .ensures)
+    copy-fits (words-of (s .args .bytes .now)) (made .entry-words .result) (s .args .n) (s .pre .1 .0) (omega (arith, entry-room (made .entry-words .ensures), s .pre .1 .1)) (read .read-words .ensures)
 
 slice-aggregate-check-words : tie.Need-slice-aggregate-check-words
 slice-aggregate-check-words c =
@@ -47,7 +48,7 @@ slice-aggregate-check-words c =
     let made = read .before .before in
     let s = made .before .before in
     sym (length-take-le (s .args .n) _
-    (copy-fits (words-of (s .args .bytes .now)) (made .entry-words .result) (s .args .n) (s .pre .1 .0) (omega (arith, made .entry-words .ensures, s .pre .1 .1)) (read .read-words .ensures)))
+    (copy-fits (words-of (s .args .bytes .now)) (made .entry-words .result) (s .args .n) (s .pre .1 .0) (omega (arith, entry-room (made .entry-words .ensures), s .pre .1 .1)) (read .read-words .ensures)))
 
 check-words-requires : tie.Need-check-words-requires
 check-words-requires c κs = search needs
@@ -60,7 +61,7 @@ returns c =
     let a = s .args in
     c .check-words .ensures
     ∙ ap (λ (words : List ℕ). answer-of (table-refusal (lines (a .p)) words (a .delay)))
-    (copy-back (words-of (a .bytes .now)) (made .entry-words .result) (a .n) (s .pre .1 .0) (omega (arith, made .entry-words .ensures, s .pre .1 .1)) (read .read-words .ensures))
+    (copy-back (words-of (a .bytes .now)) (made .entry-words .result) (a .n) (s .pre .1 .0) (omega (arith, entry-room (made .entry-words .ensures), s .pre .1 .1)) (read .read-words .ensures))
 
 pub check-few-spec : {M : Type 1} → statement M
 check-few-spec =

@@ -3,7 +3,8 @@
 use mathlib.Core.Path.{sym, _∙_}
 use lib.Seq.{length-take-le}
 use borrow.Author.Needs.{needs}
-use Rattle.program.proofs.Printing.{refused-printed, stands, printed-so}
+use Rattle.planner.proofs.Given.{stands}
+use Rattle.program.proofs.Printing.{refused-printed, given-printed, printed-so}
 use Rattle.program.proofs.print_planned.Statement.{statement}
 use Rattle.program.proofs.print_planned.Tie as tie
 
@@ -86,7 +87,7 @@ returns-2 c =
     let t = c .before .before .before .before .before .before .before .before .before .before .before .before .before .plan-table in
     let a = c .before .before .before .before .before .before .before .before .before .before .before .before .before .before .before .before .before .before .before .args in
     let s = stands _ (a .table .now) (a .frames .now) _ _ _ (sym e ∙ t .ensures .0) (t .ensures .1 .0) (t .ensures .1 .1) in
-    printed-so (a .out .now) (s .listed) (w .ensures .0) (w .ensures .1)
+    printed-so (a .out .now) (given-printed _ s) (w .ensures .0) (w .ensures .1)
 
 pub print-planned-spec : {M : Type 1} → statement M
 print-planned-spec =

@@ -1,8 +1,8 @@
--- `capi::listed` meets its contract.
+-- `capi::planning::listed` meets its contract.
 -- Assumes nothing.
 use borrow.Author.Needs.{needs}
-use Rattle.capi.proofs.listed.Statement.{statement}
-use Rattle.capi.proofs.listed.Tie as tie
+use Rattle.capi.proofs.planning.listed.Statement.{statement}
+use Rattle.capi.proofs.planning.listed.Tie as tie
 
 enum-known-l : tie.Need-enum-known-l
 enum-known-l c = search needs

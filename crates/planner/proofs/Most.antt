@@ -1,10 +1,11 @@
 -- Of a plan in which refusals 2 to 9 find nothing the start table has at most 12,672 entries and the frame list at most 8,576 frames: one entry for each row
--- and combination, and one frame for each row of an item and combination.
+-- and combination, and one frame for each row of an item and combination. And its worst delay is at most 999,999,999.
 -- Assumes nothing.
-use mathlib.Core.Path.{_≡_, sym, ap, _∙_}
+use mathlib.Core.Path.{_≡_, refl, sym, ap, _∙_}
 use mathlib.Core.Bool.{Bool, true, false, not}
-use mathlib.Core.List.{List, [], _++_, map, List·Memᴰ as In}
-use Prim.Native.Nat.{ℕ, _+_, _-_, _*_, _≤_, _<_}
+use mathlib.Core.List.{List, [], _∷_, _++_, map, List·Memᴰ as In}
+use Prim.Native.Nat.{ℕ, _+_, _-_, _*_, _^_, _≤_, _<_}
+use native.Mathlib.Nat.{pow-le-pow-right}
 use native.Mathlib.Omega.{arith}
 use borrow.Author.Tests.{lt-ltb}
 use lib.ListN.{length, length-map, length-append}
@@ -12,20 +13,23 @@ use Rattle.lists.specs.Lists.{if_then_else_, keep, each, below, upfrom}
 use Rattle.lists.proofs.Members.{map-in, keep-in, below-in, no-members}
 use Rattle.lists.proofs.Keep.{keep-each, each-append, length-upfrom}
 use Rattle.lists.proofs.Parts.{upfrom-append}
-use Rattle.lists.proofs.Sums.{length-each}
+use Rattle.lists.proofs.Counts.{keep-short}
+use Rattle.lists.proofs.Sums.{greatest-le, length-each}
 use Rattle.model.specs.Plan.{Lines}
 use Rattle.model.specs.Activity.{combinations}
 use Rattle.model.specs.Bus.{rows, is-process}
-use Rattle.model.specs.Log.{Log, of-row, placed}
-use Rattle.model.specs.Planning.{bound, planned}
+use Rattle.model.specs.Log.{Log, of-row, placed, full-ticks, delay}
+use Rattle.model.specs.Planning.{State, bound, planned}
 use Rattle.model.specs.Refusals.{nothing, plan-refusal}
-use Rattle.model.specs.Table.{Entry, entry-of, key, one-of-two, Planned, plans, made-entries, row-entries, frame-of, frame-key, wider, frames, result, entry-words, frame-words}
+use Rattle.model.specs.Table.{Entry, Frame, entry-of, key, one-of-two, Planned, plans, made-entries, row-entries, frame-of, frame-key, wider, frames, result, entry-words, frame-words}
+use Rattle.laws.proofs.Bound.{bound-small, delay-within}
 use Rattle.laws.proofs.Combinations.{combination-length}
 use Rattle.laws.proofs.Good.{good}
 use Rattle.laws.proofs.Lawful.{count-one}
 use Rattle.laws.proofs.Rules.{Kept}
 use Rattle.laws.proofs.Safety.{planning-keeps}
-use Rattle.program.proofs.Room.{keep-short, entry-words-count, frame-words-count, plans-few}
+use Rattle.laws.proofs.Words.{entry-words-count, frame-words-count}
+use Rattle.mask.proofs.Numbered.{combinations-count}
 use Rattle.ascending.proofs.Putting.{length-put-all}
 use Rattle.frames.proofs.Links.{row-of}
 
@@ -41,6 +45,29 @@ parts-most f m n k l first all =
     omega (arith, ap length e, length-append (each f (below m)) (each f (upfrom (0 + m) (n - m))))
 
 module _ (p : Lines) (fine : plan-refusal p ≡ nothing) where
+  -- six conditions have 64 combinations
+  pub plans-few : length (plans p) ≤ 64
+  unfolding plans
+  plans-few =
+      let q : 2 ^ length (p .conditions) ≤ 2 ^ 6 = pow-le-pow-right (omega arith) (good p fine .few-conditions) in
+      let n : length (plans p) ≡ length (combinations p) = length-map (combinations p) (λ c. record { combination = c; state = planned p c }) in
+      omega (arith, combinations-count (length (p .conditions)))
+
+  -- the combination of a plan
+  pub plan-in : (s : Planned) → In s (plans p) → (c : List Bool) × (length c ≡ length (p .conditions)) × (s .state ≡ planned p c)
+  unfolding plans
+  plan-in s i =
+      let c = map-in (λ c. record { combination = c; state = planned p c }) (combinations p) i in
+      (c .0, combination-length p (c .0) (c .1), ap (λ (z : Planned). z .state) (c .2))
+
+  -- the worst delay of all combinations
+  pub delay-most : result p .delay ≤ 999999999
+  unfolding result
+  delay-most =
+      greatest-le (λ s. delay p (full-ticks p) (s .state .log)) 999999999 (plans p) (λ s i.
+      let c = plan-in s i in
+      omega (arith, ap (λ (z : State). delay p (full-ticks p) (z .log)) (c .2), delay-within p (c .0) fine (c .1), bound-small p (good p fine)))
+
   -- a combination has one entry of a row at most
   log-one : (s : Planned) → In s (plans p) → (r : ℕ) → length (made-entries p r s) ≤ 1
   unfolding plans made-entries planned
@@ -59,7 +86,7 @@ module _ (p : Lines) (fine : plan-refusal p ≡ nothing) where
   row-most : (r : ℕ) → length (row-entries p (plans p) r) ≤ 64
   unfolding row-entries
   row-most r =
-      omega (arith, length-put-all key one-of-two (each (made-entries p r) (plans p)) [], length-each (made-entries p r) (plans p) 1 (λ s i. log-one s i r), plans-few p fine)
+      omega (arith, length-put-all key one-of-two (each (made-entries p r) (plans p)) [], length-each (made-entries p r) (plans p) 1 (λ s i. log-one s i r), plans-few)
 
   -- what no process starts
   abbrev item : Entry → Bool

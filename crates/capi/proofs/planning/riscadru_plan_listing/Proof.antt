@@ -1,11 +1,11 @@
--- `capi::riscadru_plan_listing` meets its contract, by that of the planning program.
+-- `capi::planning::riscadru_plan_listing` meets its contract, by that of the planning program.
 -- Assumes nothing.
 use mathlib.Core.Path.{ap, _∙_}
 use borrow.Author.Needs.{needs}
-use Rattle.capi.proofs.Putting.{listed-number}
+use Rattle.capi.proofs.Listing.{listed-number}
 use Rattle.capi.specs.Listing.{listed-answer}
-use Rattle.capi.proofs.riscadru_plan_listing.Statement.{statement}
-use Rattle.capi.proofs.riscadru_plan_listing.Tie as tie
+use Rattle.capi.proofs.planning.riscadru_plan_listing.Statement.{statement}
+use Rattle.capi.proofs.planning.riscadru_plan_listing.Tie as tie
 
 print-plan-requires : tie.Need-print-plan-requires
 print-plan-requires c κs = search needs

@@ -1,10 +1,10 @@
--- Lending the planner more words than any table or frame list has changes nothing. And a text is answered by what it reads as, in both cases of the reader's answer.
+-- Lending the planner more words than any table or frame list has changes nothing, and as many words as the lent bytes hold are lent.
 -- Assumes nothing.
-use mathlib.Core.Path.{_≡_, refl, sym, ap, _∙_, subst}
+use mathlib.Core.Path.{_≡_, refl, sym, _∙_}
 use mathlib.Core.Bool.{true, false}
 use mathlib.Core.Logic.{_⊎_, inl, inr}
 use mathlib.Core.List.{List}
-use Prim.Native.Nat.{ℕ, _-_, _*_, _/_, _≤_, min}
+use Prim.Native.Nat.{ℕ, _*_, _/_, _≤_, min}
 use native.Mathlib.Omega.{arith}
 use borrow.Author.Tests.{ltb-true, ltb-false, lt-ltb, le-ltb}
 use lib.Dec.{ltb}
@@ -15,16 +15,8 @@ use Rattle.model.specs.Plan.{Lines}
 use Rattle.model.specs.Refusals.{Refusal, nothing, refused, sentence, or-else, plan-refusal}
 use Rattle.model.specs.Table.{Result, result, entry-words, frame-words, answered, room-refusal, plan-answer}
 use Rattle.model.specs.Firmware.{words-of}
-use Rattle.model.specs.Text.{reads, not-read, after-refusal, Answers-text}
-use Rattle.plan.specs.Memory.{lines}
-use Rattle.plan.specs.Refusing.{refusal-of}
-use Rattle.plan.specs.declared.refusals.Refusal.the-variants.{Nothing, Refused}
-use Rattle.plan_reader.specs.Answer.{reading-of}
-use Rattle.plan_reader.specs.declared.Read.{Read}
+use Rattle.planner.proofs.Most.{entries-cap, frames-cap}
 use Rattle.words.proofs.Reading.{words-count}
-use Rattle.capi.specs.Tables.{planned-of, Puts, Tables}
-use Rattle.capi.proofs.Most.{entries-cap, frames-cap}
-use Rattle.capi.proofs.Putting.{nothing-put, puts-so}
 
 -- the test for too few words is the same where no more are needed than the most
 capped : (words most needed : ℕ) → needed ≤ most → ltb (min words most) needed ≡ ltb words needed
@@ -54,25 +46,3 @@ lent-words array bytes n many most long a l b c = omega (arith, length-take-le n
 
 pub lent-enough : (n : ℕ) (bytes : List ℕ) (most long : ℕ) → most ≤ long → n ≡ min (length bytes / 4) most → (n ≤ long) × (4 * n ≤ length bytes)
 lent-enough n bytes most long l e = (omega arith, omega arith)
-
-module _ (text table frames totals table-now frames-now totals-now : List ℕ) (r : Read) (told : Answers-text text (reading-of r)) (answer : ℕ) where
-  pub refused-tables : (n : ℕ) → r .refusal ≡ Refused n → table-now ≡ table → frames-now ≡ frames → totals-now ≡ totals → answer ≡ 18446744073709551615 - n →
-      Tables text table frames totals table-now frames-now totals-now answer
-  unfolding reading-of after-refusal planned-of
-  refused-tables n e t f u q =
-      record {
-        reading = not-read n;
-        of-text = subst (Answers-text text) (ap (λ x. after-refusal (refusal-of x) (lines (r .plan))) e) told;
-        puts = rw (t, f, u) (nothing-put n table frames totals answer q);
-      }
-
-  pub read-tables : r .refusal ≡ Nothing →
-      Puts (plan-answer (lines (r .plan)) (min (length table / 4) 63360) (min (length frames / 4) 25728)) table frames totals table-now frames-now totals-now answer →
-      Tables text table frames totals table-now frames-now totals-now answer
-  unfolding reading-of after-refusal planned-of
-  read-tables e q =
-      record {
-        reading = reads (lines (r .plan));
-        of-text = subst (Answers-text text) (ap (λ x. after-refusal (refusal-of x) (lines (r .plan))) e) told;
-        puts = puts-so (more-words (lines (r .plan)) (length table / 4) (length frames / 4)) q;
-      }

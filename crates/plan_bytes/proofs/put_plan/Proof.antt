@@ -1,15 +1,17 @@
--- `capi::put_plan` meets its contract: the planner is lent as many words as the lent bytes hold, and no more than a table or a frame list can have.
+-- `plan_bytes::put_plan` meets its contract: the planner is lent as many words as the lent bytes hold, and no more than a table or a frame list can have.
 -- Assumes nothing.
-use mathlib.Core.Path.{sym}
+use mathlib.Core.Path.{sym, ap, _∙_}
 use native.Mathlib.Omega.{arith}
 use lib.Seq.{length-take-le}
 use borrow.Author.Needs.{needs}
 use Rattle.model.specs.Table.{plan-answer}
 use Rattle.plan.specs.Memory.{lines}
-use Rattle.capi.proofs.Putting.{puts-so}
-use Rattle.capi.proofs.Lending.{lent-words, lent-enough}
-use Rattle.capi.proofs.put_plan.Statement.{statement}
-use Rattle.capi.proofs.put_plan.Tie as tie
+use Rattle.words.proofs.Room.{entry-room}
+use Rattle.plan_bytes.specs.Filled.{put-of}
+use Rattle.plan_bytes.proofs.Putting.{filled-so}
+use Rattle.plan_bytes.proofs.Lending.{more-words, lent-words, lent-enough}
+use Rattle.plan_bytes.proofs.put_plan.Statement.{statement}
+use Rattle.plan_bytes.proofs.put_plan.Tie as tie
 
 entry-words-requires : tie.Need-entry-words-requires
 entry-words-requires c κs = search needs
@@ -34,7 +36,7 @@ array-borrow-prefix-words c = search needs
 
 slice-aggregate-put-planned : tie.Need-slice-aggregate-put-planned
 slice-aggregate-put-planned c =
-    sym (length-take-le _ _ (omega (arith, c .before .before .before .before .least .ensures, c .before .before .before .before .before .before .before .before .entry-words .ensures)))
+    sym (length-take-le _ _ (omega (arith, c .before .before .before .before .least .ensures, entry-room (c .before .before .before .before .before .before .before .before .entry-words .ensures))))
 
 array-borrow-prefix-framewords : tie.Need-array-borrow-prefix-framewords
 array-borrow-prefix-framewords c = search needs
@@ -46,7 +48,7 @@ slice-aggregate-put-planned-2 c =
 put-planned-requires : tie.Need-put-planned-requires
 put-planned-requires c κs =
     let a = c .before .before .before .before .before .before .before .before .before .before .before .before .before .before .before .before .args in
-    let t = lent-words _ (a .table .now) _ _ _ _ (c .before .before .before .before .before .before .before .before .before .before .before .before .entry-words .ensures) (omega arith) (c .before .before .before .before .before .before .before .before .least .ensures) (c .before .before .before .before .before .before .before .before .before .how-many .ensures) in
+    let t = lent-words _ (a .table .now) _ _ _ _ (entry-room (c .before .before .before .before .before .before .before .before .before .before .before .before .entry-words .ensures)) (omega arith) (c .before .before .before .before .before .before .before .before .least .ensures) (c .before .before .before .before .before .before .before .before .before .how-many .ensures) in
     let f = lent-words _ (a .frames .now) _ _ _ _ (c .before .before .before .before .before .before .before .before .before .before .before .frame-words .ensures) (omega arith) (c .before .before .before .before .before .least2 .ensures) (c .before .before .before .before .before .before .how-many2 .ensures) in
     (lent-enough _ (a .table .now) _ 63360 (omega arith) t, lent-enough _ (a .frames .now) _ 25728 (omega arith) f)
 
@@ -62,9 +64,11 @@ same-length-3 c = search needs
 returns : tie.Need-returns
 returns c =
     let a = c .before .before .before .before .before .before .before .before .before .before .before .before .before .before .before .before .before .before .before .before .before .before .before .before .before .args in
-    let t = lent-words _ (a .table .now) _ _ _ _ (c .before .before .before .before .before .before .before .before .before .before .before .before .before .before .before .before .before .before .before .before .before .entry-words .ensures) (omega arith) (c .before .before .before .before .before .before .before .before .before .before .before .before .before .before .before .before .before .least .ensures) (c .before .before .before .before .before .before .before .before .before .before .before .before .before .before .before .before .before .before .how-many .ensures) in
+    let t = lent-words _ (a .table .now) _ _ _ _ (entry-room (c .before .before .before .before .before .before .before .before .before .before .before .before .before .before .before .before .before .before .before .before .before .entry-words .ensures)) (omega arith) (c .before .before .before .before .before .before .before .before .before .before .before .before .before .before .before .before .before .least .ensures) (c .before .before .before .before .before .before .before .before .before .before .before .before .before .before .before .before .before .before .how-many .ensures) in
     let f = lent-words _ (a .frames .now) _ _ _ _ (c .before .before .before .before .before .before .before .before .before .before .before .before .before .before .before .before .before .before .before .before .frame-words .ensures) (omega arith) (c .before .before .before .before .before .before .before .before .before .before .before .before .before .before .least2 .ensures) (c .before .before .before .before .before .before .before .before .before .before .before .before .before .before .before .how-many2 .ensures) in
-    puts-so (λ i. plan-answer (lines (a .p)) (t i) (f i)) (c .before .before .before .before .before .before .before .before .put-planned .ensures)
+    let e = (λ i. plan-answer (lines (a .p)) (t i) (f i)) ∙ more-words (lines (a .p)) _ _ in
+    let w = c .before .before .before .before .before .before .before .before .put-planned in
+    (w .ensures .0 ∙ ap put-of e, filled-so e (w .ensures .1))
 
 pub put-plan-spec : {M : Type 1} → statement M
 put-plan-spec =

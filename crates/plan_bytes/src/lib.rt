@@ -1,0 +1,109 @@
+// The planner over bytes: a plan is planned, and its start table, frame list and totals are put into lent bytes, four bytes a word, the lowest first.
+use plan::Plan;
+use planner::Made;
+use planner::Planned;
+use planner::plan_table;
+use words::entry_words;
+use words::how_many;
+use words::put_some;
+use words::put_words;
+ghost use mathlib.Core.Path.{_≡_};
+ghost use mathlib.Core.List.{[], _∷_};
+ghost use Prim.Native.Nat.{_*_, _/_, _≤_, min};
+ghost use lib.ListN.{length};
+ghost use Rattle.model.specs.Table.{plan-answer};
+ghost use Rattle.plan.specs.Memory.{lines};
+ghost use Rattle.plan_bytes.specs.Filled.{put-of, Filled, Stored};
+
+// What is answered for a plan that is planned into lent bytes: how many bytes of the table were written, or the number of the refusal.
+pub enum Put {
+    Wrote(usize),
+    Refused(u32),
+}
+
+// The words of 8,576 frames: no frame list has more.
+fn frame_words() -> [u32; 25728]
+    ensures { λ r. ⌜ length r ≡ 25728 ⌝ }
+{
+    [0u32; 25728]
+}
+
+// The lesser of two numbers.
+fn least(a: usize, b: usize) -> usize
+    ensures { λ r. ⌜ r ≡ min a b ⌝ }
+{
+    if a < b {
+        return a;
+    }
+    b
+}
+
+// The four totals of a plan, as words.
+fn totals_of(words: usize, frames: usize, delay: u32, passed: u32) -> [u32; 4]
+    requires { ⌜ (words ≤ 63360) × (frames ≤ 25728) ⌝ }
+    ensures { λ r. ⌜ r ≡ words ∷ frames ∷ delay ∷ passed ∷ [] ⌝ }
+{
+    [words as u32, frames as u32, delay, passed]
+}
+
+// Puts what the planner made, the table at the front of `words` and the frame list at the front of `framewords`, and the totals, to the front of lent bytes.
+fn put_made<'a>(
+    m: Made,
+    words: &'a [u32],
+    framewords: &'a [u32],
+    table: &mut [u8],
+    frames: &mut [u8],
+    totals: &mut [u8],
+)
+    requires { ⌜ (m .words ≤ 63360) × (m .words ≤ length (now words)) × (4 * m .words ≤ length (now table)) ⌝ ∗ ⌜ (m .framewords ≤ 25728) × (m .framewords ≤ length (now framewords)) × (4 * m .framewords ≤ length (now frames)) ⌝ }
+    ensures { λ r. ⌜ Stored m (now (words .entry)) (now (framewords .entry)) (now (table .entry)) (now (frames .entry)) (now (totals .entry)) (now (table .exit)) (now (frames .exit)) (now (totals .exit)) ⌝ }
+{
+    put_words(words, m.words, table);
+    put_words(framewords, m.framewords, frames);
+    let four = totals_of(m.words, m.framewords, m.delay, m.passed);
+    put_some(&four, totals);
+}
+
+// Plans a plan into lent words, and puts the table, the frame list and the totals as bytes to the front of lent bytes.
+fn put_planned(
+    p: Plan,
+    words: &mut [u32],
+    framewords: &mut [u32],
+    table: &mut [u8],
+    frames: &mut [u8],
+    totals: &mut [u8],
+) -> Put
+    requires { ⌜ (length (now words) ≤ 63360) × (4 * length (now words) ≤ length (now table)) ⌝ ∗ ⌜ (length (now framewords) ≤ 25728) × (4 * length (now framewords) ≤ length (now frames)) ⌝ }
+    ensures answer { λ r. ⌜ r ≡ put-of (plan-answer (lines p) (length (now (words .entry))) (length (now (framewords .entry)))) ⌝ }
+    ensures bytes { λ r. ⌜ Filled (plan-answer (lines p) (length (now (words .entry))) (length (now (framewords .entry)))) (now (table .entry)) (now (frames .entry)) (now (totals .entry)) (now (table .exit)) (now (frames .exit)) (now (totals .exit)) ⌝ }
+{
+    let planned = plan_table(p, words, framewords);
+    match planned {
+        Planned::Refused(n) => Put::Refused(n),
+        Planned::Made(m) => {
+            put_made(m, words, framewords, table, frames, totals);
+            Put::Wrote(4 * m.words)
+        }
+    }
+}
+
+// Plans a plan, and puts the start table to the front of `table`, the frame list to the front of `frames`, each as words of four bytes, the lowest first, and four
+// words, as far as the bytes go, to the front of `totals`: how many words the table has, how many the frame list has, the worst delay and the pass-over
+// count. How many bytes of `table` were written; or a refusal, 2 to 11, which leaves all lent bytes unchanged.
+pub fn put_plan(p: Plan, table: &mut [u8], frames: &mut [u8], totals: &mut [u8]) -> Put
+    ensures answer { λ r. ⌜ r ≡ put-of (plan-answer (lines p) (length (now (table .entry)) / 4) (length (now (frames .entry)) / 4)) ⌝ }
+    ensures bytes { λ r. ⌜ Filled (plan-answer (lines p) (length (now (table .entry)) / 4) (length (now (frames .entry)) / 4)) (now (table .entry)) (now (frames .entry)) (now (totals .entry)) (now (table .exit)) (now (frames .exit)) (now (totals .exit)) ⌝ }
+{
+    let mut words = entry_words();
+    let mut framewords = frame_words();
+    let count = least(how_many(table), 63360);
+    let framecount = least(how_many(frames), 25728);
+    put_planned(
+        p,
+        &mut words[..count],
+        &mut framewords[..framecount],
+        table,
+        frames,
+        totals,
+    )
+}

@@ -1,0 +1,20 @@
+-- What the reader's answer tells of a text, in both of its cases: it is not read, with the refusal's number, or it reads as the plan's lines.
+-- Assumes nothing.
+use mathlib.Core.Path.{_≡_, ap, subst}
+use mathlib.Core.List.{List}
+use Prim.Native.Nat.{ℕ}
+use Rattle.model.specs.Text.{reads, not-read, after-refusal, Answers-text}
+use Rattle.plan.specs.Memory.{lines}
+use Rattle.plan.specs.Refusing.{refusal-of}
+use Rattle.plan.specs.declared.refusals.Refusal.the-variants.{Nothing, Refused}
+use Rattle.plan_reader.specs.declared.Read.{Read}
+use Rattle.plan_reader.specs.Answer.{reading-of}
+
+module _ (text : List ℕ) (r : Read) (told : Answers-text text (reading-of r)) where
+  pub told-refused : (n : ℕ) → r .refusal ≡ Refused n → Answers-text text (not-read n)
+  unfolding reading-of after-refusal
+  told-refused n e = subst (Answers-text text) (ap (λ x. after-refusal (refusal-of x) (lines (r .plan))) e) told
+
+  pub told-read : r .refusal ≡ Nothing → Answers-text text (reads (lines (r .plan)))
+  unfolding reading-of after-refusal
+  told-read e = subst (Answers-text text) (ap (λ x. after-refusal (refusal-of x) (lines (r .plan))) e) told
