@@ -38,10 +38,11 @@ use Rattle.orders.specs.Orders.{Ordered}
 use Rattle.timetable.specs.declared.Timetable.{Timetable}
 use Rattle.timetable.specs.Bus.{Timed}
 use Rattle.mask.proofs.Numbered.{combination-bit}
-use Rattle.board.specs.Layout.{receiver-of, cue-of, several-of, unmet-of, value-of, unmet-by, process-of-row, senders-by-row, spans-by-row, sizes-by-row, several-by-process, cues-by-edge, remote-by-edge, numbers-below, places-below, board-of}
+use Rattle.board.specs.Layout.{receiver-of, cue-of, several-of, unmet-of, value-of, unmet-by, process-of-row, senders-by-row, spans-by-row, sizes-by-row, several-by-process, cues-by-edge, remote-by-edge, board-of}
 use Rattle.board.specs.Board.{Boarded}
-use Rattle.board.proofs.Bounds.{fill-each, fill-all, senders-small}
-use Rattle.board.proofs.Parts.{numbers-small, places-small, null-same, start-same, end-same, part-same}
+use Rattle.orders.proofs.Everywhere.{fill-each, fill-all}
+use Rattle.board.proofs.Bounds.{senders-small}
+use Rattle.board.proofs.Parts.{null-same, part-same}
 use Rattle.board.proofs.Lengths.{Long}
 use Rattle.board.proofs.Columns.{any-of, facts, few, process-any, no-process-at, no-edge-at, node-small, ticks-small, from-small, bytes-small, names-small, decider-same, decider-small}
 use Rattle.board.proofs.Combination.{receiver-same, cue-same, met-same}
@@ -237,34 +238,9 @@ module _ (p : Plan) (h : plan-refusal (lines p) ≡ nothing) where
         (sym (ap not (null-same (o .intofirst) (o .into) i (into (lines p) i) (w .into i l) (k .into)) ∙ not-not (ltb (at (o .intofirst) i) (at (o .intofirst) (i + 1))))))
         (λ i l. sym (λ j. says-any (no-process-at p h i l j .waits) && not (null (into (lines p) i))))
 
-    leading : (i : ℕ) → i < length (lines p .processes) → edges-into (places-below (o .intofirst)) (numbers-below (o .into) 128) i ≡ into (lines p) i
+    leading : (i : ℕ) → i < length (lines p .processes) → edges-into (o .intofirst) (o .into) i ≡ into (lines p) i
     unfolding edges-into
-    leading i l =
-        part-same (o .intofirst) (o .into) i (into (lines p) i) (w .into i (in-plan l)) (k .into) (omega (arith, facts p h .few-processes)) 128
-        (λ x m. let u = below-in (length (lines p .edges)) (keep-in _ (below (length (lines p .edges))) m .0) in omega (arith, facts p h .few-edges))
-
-    turns-same : (n : ℕ) → n < length (lines p .slots) →
-        part (numbers-below (o .turn) 64) (at (places-below (o .turnfirst)) n) (at (places-below (o .turnfirst)) (n + 1)) ≡ keep (λ i. eqb (unit (lines p) i) n) (turns (lines p))
-    unfolding turns
-    turns-same n l =
-        part-same (o .turnfirst) (o .turn) n _ (w .turns n (in-bus l)) (k .turn) (omega (arith, facts p h .few-slots)) 64
-        (λ x m.
-        let u = below-in (length (lines p .processes)) (sort-in _ (below (length (lines p .processes))) (keep-in _ _ m .0)) in
-        omega (arith, facts p h .few-processes))
-
-    queue-same : (n : ℕ) → n < length (lines p .slots) →
-        part (numbers-below (o .queue) 128) (at (places-below (o .queuefirst)) n) (at (places-below (o .queuefirst)) (n + 1))
-        ≡ keep (λ e. eqb (process (lines p) (edge (lines p) e .from) .node) n && not (local (lines p) e)) (queue (lines p))
-    unfolding queue
-    queue-same n l =
-        part-same (o .queuefirst) (o .queue) n _ (w .queue n (in-bus l)) (k .queue) (omega (arith, facts p h .few-slots)) 128
-        (λ x m.
-        let u = below-in (length (lines p .edges)) (sort-in _ (below (length (lines p .edges))) (keep-in _ _ m .0)) in
-        omega (arith, facts p h .few-edges))
-
-    rising : {first member : List ℕ} {n : ℕ} {list : List ℕ} → Part first member n list → length member ≡ 128 → n < 64 →
-        at (places-below first) n ≤ at (places-below first) (n + 1)
-    rising {first} {member} {n} {list} v u l = omega (arith, start-same first member n list v u l, end-same first member n list v u l, v .rising)
+    leading i l = part-same (o .intofirst) (o .into) i (into (lines p) i) (w .into i (in-plan l)) (k .into)
 
     module _ (t : Timetable) (m : Timed (lines p) t) where
       lasts-most : (n : ℕ) → n < length (lines p .slots) → at (t .ticks) n ≤ 64000
@@ -324,8 +300,8 @@ module _ (p : Plan) (h : plan-refusal (lines p) ≡ nothing) where
                 };
             receivers = receivers;
             remote-most = remote-most;
-            turns-of = turns-same;
-            queue-of = queue-same;
+            turns-of = λ n l. part-same (o .turnfirst) (o .turn) n _ (w .turns n (in-bus l)) (k .turn);
+            queue-of = λ n l. part-same (o .queuefirst) (o .queue) n _ (w .queue n (in-bus l)) (k .queue);
             rounds = m .rounds;
             offsets = m .offsets;
             lasts-of = m .lasts;
@@ -333,16 +309,16 @@ module _ (p : Plan) (h : plan-refusal (lines p) ≡ nothing) where
             spans = spans;
             senders-of = senders;
             bytes-of = sizes;
-            within = record { senders = from-small p h; cues = cues-small; edges = numbers-small (o .into) 128 (omega arith) };
+            within = record { senders = from-small p h; cues = cues-small; edges = w .into-numbers };
             condition-small = names-small p h;
-            into-firsts = places-small (o .intofirst);
-            turn-firsts = places-small (o .turnfirst);
-            queue-firsts = places-small (o .queuefirst);
-            into-rising = λ i l. rising (w .into i (in-plan l)) (k .into) (omega (arith, facts p h .few-processes));
-            turn-rising = λ n l. rising (w .turns n (in-bus l)) (k .turn) (omega (arith, facts p h .few-slots));
-            queue-rising = λ n l. rising (w .queue n (in-bus l)) (k .queue) (omega (arith, facts p h .few-slots));
-            turn-members = numbers-small (o .turn) 64 (omega arith);
-            queue-members = numbers-small (o .queue) 128 (omega arith);
+            into-firsts = w .into-places;
+            turn-firsts = w .turn-places;
+            queue-firsts = w .queue-places;
+            into-rising = λ i l. w .into i (in-plan l) .rising;
+            turn-rising = λ n l. w .turns n (in-bus l) .rising;
+            queue-rising = λ n l. w .queue n (in-bus l) .rising;
+            turn-members = w .turn-numbers;
+            queue-members = w .queue-numbers;
             node-small = node-small p h;
             decider-small = decider-small p h;
             sender-small = senders-small (edges-table p .from) decided-by (processes-table p .node) (p .processes) tell all-rows few-rows (node-small p h);

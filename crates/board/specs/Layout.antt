@@ -11,10 +11,6 @@ use Rattle.orders.specs.declared.Orders.{Orders}
 use Rattle.timetable.specs.declared.Timetable.{Timetable}
 use Rattle.board.specs.declared.Board.{Board}
 
--- a number, or 0 where it is not below a bound
-abbrev pub if-below : ℕ → ℕ → ℕ
-if-below bound x = if ltb x bound then x else 0
-
 -- 1 where two numbers differ
 abbrev pub differs : ℕ → ℕ → ℕ
 differs a b = if eqb a b then 0 else 1
@@ -73,13 +69,6 @@ cues-by-edge kind condition from edges tell = fill 128 (λ k. cue-of (at kind k)
 unfoldable pub remote-by-edge : List ℕ → List ℕ → List ℕ → ℕ → List ℕ
 remote-by-edge node from to edges = fill 128 (λ k. receiver-of (at node (at from k)) (at node (at to k))) edges
 
--- an array of an order whose numbers are below a bound, and one of its places
-unfoldable pub numbers-below : List ℕ → ℕ → List ℕ
-numbers-below list bound = fill 128 (λ j. if-below bound (at list j)) 128
-
-unfoldable pub places-below : List ℕ → List ℕ
-places-below first = fill 65 (λ k. if-below 129 (at first k)) 65
-
 -- how large the numbers in the tables of a plan are in which refusals 2 to 9 find nothing
 pub record Small (processes edges conditions : ℕ) (q : ProcessTable) (e : EdgeTable) (decider : List ℕ) : Type 0 where
   pub few-processes : processes ≤ 64
@@ -111,12 +100,12 @@ board-of processes edges conditions slots q e o t decider =
       kind = e .kind;
       condition = e .condition;
       decider = decider;
-      intofirst = places-below (o .intofirst);
-      into = numbers-below (o .into) 128;
-      turnfirst = places-below (o .turnfirst);
-      turn = numbers-below (o .turn) 64;
-      queuefirst = places-below (o .queuefirst);
-      queue = numbers-below (o .queue) 128;
+      intofirst = o .intofirst;
+      into = o .into;
+      turnfirst = o .turnfirst;
+      turn = o .turn;
+      queuefirst = o .queuefirst;
+      queue = o .queue;
       round = t .round;
       offset = t .offset;
       lasts = t .ticks;

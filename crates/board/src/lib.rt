@@ -14,7 +14,7 @@ ghost use Rattle.lists.specs.Lists.{fill};
 ghost use Rattle.model.specs.Refusals.{nothing, plan-refusal};
 ghost use Rattle.plan.specs.Memory.{lines};
 ghost use Rattle.plan.specs.Refusing.{at};
-ghost use Rattle.board.specs.Layout.{if-below, differs, cue-of, several-of, unmet-of, value-of, receiver-of, unmet-by, process-of-row, span-of-row, size-of-row, senders-by-row, spans-by-row, sizes-by-row, several-by-process, cues-by-edge, remote-by-edge, numbers-below, places-below, Small, board-of};
+ghost use Rattle.board.specs.Layout.{differs, cue-of, several-of, unmet-of, value-of, receiver-of, unmet-by, process-of-row, span-of-row, size-of-row, senders-by-row, spans-by-row, sizes-by-row, several-by-process, cues-by-edge, remote-by-edge, Small, board-of};
 ghost use Rattle.board.specs.Board.{Boarded};
 
 // A plan laid out for planning.
@@ -78,12 +78,6 @@ fn no_processes() -> [u32; 64]
     [0u32; 64]
 }
 
-fn no_places() -> [u32; 65]
-    ensures { λ r. ⌜ r ≡ replicate 65 0 ⌝ }
-{
-    [0u32; 65]
-}
-
 fn no_rows() -> [u32; 198]
     ensures { λ r. ⌜ r ≡ replicate 198 0 ⌝ }
 {
@@ -110,53 +104,6 @@ fn differ(a: u32, b: u32) -> u32
     1
 }
 
-// x, or 0 where it is not below the bound.
-fn number_below(x: u32, bound: u32) -> u32
-    ensures { λ r. ⌜ r ≡ if-below bound x ⌝ }
-{
-    if x < bound {
-        return x;
-    }
-    0
-}
-
-// x, or 0 where it is more than 128.
-fn place_below(x: usize) -> u32
-    ensures { λ r. ⌜ r ≡ if-below 129 x ⌝ }
-{
-    if x < 129 {
-        return x as u32;
-    }
-    0
-}
-
-// The numbers of an order, each below a bound. An order says what stands in its groups; of what stands elsewhere nothing is known, and
-// where that is not below the bound there is 0.
-fn numbers_below_bound(list: [u32; 128], bound: u32) -> [u32; 128]
-    ensures { λ r. ⌜ r ≡ numbers-below list bound ⌝ }
-{
-    let mut out = no_numbers();
-    let mut j: usize = 0;
-    while j < 128 {
-        out[j] = number_below(list[j], bound);
-        j += 1;
-    }
-    out
-}
-
-// The places of an order, each up to 128. Past its groups, where nothing is known of them, there is 0 for what is more.
-fn places(first: [usize; 65]) -> [u32; 65]
-    ensures { λ r. ⌜ r ≡ places-below first ⌝ }
-{
-    let mut out = no_places();
-    let mut k: usize = 0;
-    while k < 65 {
-        out[k] = place_below(first[k]);
-        k += 1;
-    }
-    out
-}
-
 // The process that decides each condition.
 fn deciders(p: Plan) -> [u32; 6]
     requires { ⌜ p .conditions ≤ 6 ⌝ }
@@ -172,7 +119,7 @@ fn deciders(p: Plan) -> [u32; 6]
 }
 
 // Whether a process counts as `any`: it says so, and an edge leads into it.
-fn counts_as_any(any: u32, first: usize, end: usize) -> u32
+fn counts_as_any(any: u32, first: u32, end: u32) -> u32
     ensures { λ r. ⌜ r ≡ several-of any first end ⌝ }
 {
     if any == 0 {
@@ -185,7 +132,7 @@ fn counts_as_any(any: u32, first: usize, end: usize) -> u32
 }
 
 // Whether each process counts as `any`.
-fn several_of_processes(any: [u32; 64], first: [usize; 65], processes: usize) -> [u32; 64]
+fn several_of_processes(any: [u32; 64], first: [u32; 65], processes: usize) -> [u32; 64]
     requires { ⌜ processes ≤ 64 ⌝ }
     ensures { λ r. ⌜ r ≡ several-by-process any first processes ⌝ }
 {
@@ -383,21 +330,15 @@ fn laid_out(
     let offset = t.offset;
     let lasts = t.ticks;
     let rooms = t.bytes;
-    let edges_first = o.intofirst;
-    let edges_list = o.into;
-    let turns_first = o.turnfirst;
-    let turns_list = o.turn;
-    let queue_first = o.queuefirst;
-    let queue_list = o.queue;
-    let several = several_of_processes(any, edges_first, processes);
+    let intofirst = o.intofirst;
+    let into = o.into;
+    let turnfirst = o.turnfirst;
+    let turn = o.turn;
+    let queuefirst = o.queuefirst;
+    let queue = o.queue;
+    let several = several_of_processes(any, intofirst, processes);
     let cue = cues(e, edges, tell as u32);
     let remote = remotes(node, e, edges);
-    let intofirst = places(edges_first);
-    let into = numbers_below_bound(edges_list, 128);
-    let turnfirst = places(turns_first);
-    let turn = numbers_below_bound(turns_list, 64);
-    let queuefirst = places(queue_first);
-    let queue = numbers_below_bound(queue_list, 128);
     let sender = row_senders(&from, &decider, &node, processes, tell, rows);
     let span = row_spans(&ticks, &lasts, &sender, processes, rows);
     let size = row_sizes(&bytes, processes, tell, rows);

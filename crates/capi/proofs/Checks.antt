@@ -9,7 +9,7 @@ use Rattle.model.specs.Text.{reads, not-read, Answers-text}
 use Rattle.model.specs.Firmware.{words-of}
 use Rattle.model.specs.Checking.{table-refusal}
 use Rattle.plan.specs.Memory.{lines}
-use Rattle.plan.specs.declared.refusals.Refusal.the-variants.{Nothing, Refused}
+use Rattle.refusals.specs.declared.Refusal.the-variants.{Nothing, Refused}
 use Rattle.plan_reader.specs.Answer.{reading-of}
 use Rattle.plan_reader.specs.declared.Read.{Read}
 use Rattle.plan_reader.proofs.Told.{told-refused, told-read}

@@ -7,7 +7,7 @@ use lib.ListN.{length}
 use Rattle.model.specs.Text.{reads, not-read, Answers-text, wrote, not-written, write-plan, bytes-after}
 use Rattle.model.specs.Text as m
 use Rattle.plan.specs.Memory.{lines}
-use Rattle.plan.specs.declared.refusals.Refusal.the-variants.{Nothing, Refused}
+use Rattle.refusals.specs.declared.Refusal.the-variants.{Nothing, Refused}
 use Rattle.plan_reader.specs.Answer.{reading-of}
 use Rattle.plan_reader.specs.declared.Read.{Read}
 use Rattle.plan_reader.proofs.Told.{told-refused, told-read}

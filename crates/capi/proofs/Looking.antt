@@ -10,7 +10,7 @@ use Rattle.model.specs.Lookup.{entry, none, refusal, lookup}
 use Rattle.model.specs.Lookup as m
 use Rattle.model.specs.Firmware.{words-of, found-number, found-in, Answers-lookup}
 use Rattle.plan.specs.Memory.{lines}
-use Rattle.plan.specs.declared.refusals.Refusal.the-variants.{Nothing, Refused}
+use Rattle.refusals.specs.declared.Refusal.the-variants.{Nothing, Refused}
 use Rattle.plan_reader.specs.Answer.{reading-of}
 use Rattle.plan_reader.specs.declared.Read.{Read}
 use Rattle.plan_reader.proofs.Told.{told-refused, told-read}

@@ -2,8 +2,8 @@
 use crate::refused;
 use check_bytes::check_bytes;
 use checker::Checked;
-use plan::refusals::Refusal;
 use plan_reader::read_plan;
+use refusals::Refusal;
 ghost use mathlib.Core.Path.{_≡_};
 ghost use Rattle.capi.specs.Checks.{Checks, checked-answer};
 

@@ -3,10 +3,10 @@ pub mod checking;
 pub mod lookup;
 pub mod planning;
 
-use plan::refusals::Refusal;
 use plan_reader::read_plan;
 use plan_writer::Written;
 use plan_writer::write_plan;
+use refusals::Refusal;
 ghost use mathlib.Core.Path.{_≡_};
 ghost use Prim.Native.Nat.{_-_};
 ghost use Rattle.capi.specs.Copy.{Copies, written-answer};

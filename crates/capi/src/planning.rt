@@ -1,11 +1,11 @@
 // The planner over a plan text: what the planning program prints, and the table, the frame list and the totals as bytes, words little-endian.
 use crate::refused;
 use listing::Listed;
-use plan::refusals::Refusal;
 use plan_bytes::Put;
 use plan_bytes::put_plan;
 use plan_reader::read_plan;
 use program::print_plan;
+use refusals::Refusal;
 ghost use mathlib.Core.Path.{_≡_};
 ghost use Rattle.capi.specs.Listing.{Lists, listed-answer};
 ghost use Rattle.capi.specs.Tables.{Tables, put-answer};

@@ -15,7 +15,7 @@ use Rattle.model.specs.Checking.{check}
 use Rattle.model.specs.Lookup.{lookup, row-start, row-length, row-part}
 use Rattle.model.specs.Firmware.{words-of, Answers-lookup}
 use Rattle.plan.specs.Memory.{lines}
-use Rattle.plan.specs.Refusing.{refusal-of}
+use Rattle.refusals.specs.Refusing.{refusal-of}
 use Rattle.plan_reader.specs.Answer.{reading-of, Emptied}
 use Rattle.plan_writer.specs.Answer as writer
 use Rattle.planner.specs.Planner as planner
@@ -27,8 +27,8 @@ use Rattle.capi.specs.Checks.{Checks}
 use Rattle.capi.specs.Copy.{Copies}
 use Rattle.capi.specs.Listing.{Lists}
 use Rattle.capi.specs.Tables.{Tables}
-use Rattle.plan.proofs.refusals.refuse.Reads as the-refuse
-use Rattle.plan.proofs.refusals.refuse.Kinds as the-refuse-kinds
+use Rattle.refusals.proofs.refuse.Reads as the-refuse
+use Rattle.refusals.proofs.refuse.Kinds as the-refuse-kinds
 use Rattle.plan_reader.proofs.read_plan.Reads as the-read
 use Rattle.plan_reader.proofs.read_plan.Kinds as the-read-kinds
 use Rattle.plan_writer.proofs.write_plan.Reads as the-write
@@ -68,7 +68,7 @@ pub record Contract {n : ℕ} (ps : List (PK n)) (r : RK n) (Asked : In n ps) (L
   pub asks-nothing : (κs : Lfts n) (a : Dens κs ps) → Asked κs a
   pub says : (κs : Lfts n) (a : Dens κs ps) (z : resT r κs .Denot) (e : AtExit (endedOf n ps r) κs) → Learnt κs a z e → Said κs a z e
 
--- `plan::refusals::refuse`
+-- `refusals::refuse`
 pub refusing : Contract the-refuse-kinds.ps the-refuse-kinds.r the-refuse.Asked the-refuse.Learnt (λ κs a z e.
     refusal-of z ≡ plan-refusal (lines (a .0)))
 refusing = record { asks-nothing = λ κs a. tt; says = λ κs a z e h. h }

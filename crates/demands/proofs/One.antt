@@ -20,7 +20,7 @@ use Rattle.grammar.proofs.Answers.{answers-unique}
 use Rattle.program.proofs.Room.{program-fits}
 use Rattle.plan.specs.declared.Plan.{Plan}
 use Rattle.plan.specs.Memory.{lines, empty-plan}
-use Rattle.plan.specs.declared.refusals.Refusal.the-variants as variant
+use Rattle.refusals.specs.declared.Refusal.the-variants as variant
 use Rattle.plan_reader.specs.declared.Read.{Read}
 use Rattle.plan_reader.specs.Answer.{reading-of, Emptied}
 use Rattle.plan_writer.specs.declared.Written.{Written}

@@ -14,9 +14,9 @@ use Rattle.model.specs.Refusals as m
 use Rattle.model.specs.Text.{Means, reads, not-read, after-refusal, unless-refused, bytes-after}
 use Rattle.model.specs.Table.{Result, answered, table-after, frames-after, entry-words}
 use Rattle.plan.specs.Memory.{lines, empty-plan}
-use Rattle.plan.specs.declared.refusals.Refusal.{Refusal}
-use Rattle.plan.specs.declared.refusals.Refusal.the-variants as refusal
-use Rattle.plan.specs.Refusing.{refusal-of}
+use Rattle.refusals.specs.declared.Refusal.{Refusal}
+use Rattle.refusals.specs.declared.Refusal.the-variants as refusal
+use Rattle.refusals.specs.Refusing.{refusal-of}
 use Rattle.plan_reader.specs.declared.Read.{Read}
 use Rattle.plan_reader.specs.Answer.{reading-of, Emptied}
 use Rattle.plan_writer.specs.declared.Written.{Written}

@@ -20,8 +20,8 @@ use Rattle.grammar.proofs.Whole.{means-unique}
 use Rattle.grammar.proofs.Answers.{answers-unique}
 use Rattle.plan.specs.declared.Plan.{Plan}
 use Rattle.plan.specs.Memory.{lines}
-use Rattle.plan.specs.declared.refusals.Refusal.the-variants as refusal
-use Rattle.plan.specs.Refusing.{refusal-of}
+use Rattle.refusals.specs.declared.Refusal.the-variants as refusal
+use Rattle.refusals.specs.Refusing.{refusal-of}
 use Rattle.plan_reader.specs.declared.Read.{Read}
 use Rattle.plan_reader.specs.Answer.{reading-of}
 use Rattle.plan_writer.specs.declared.Written.{Written}

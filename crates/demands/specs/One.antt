@@ -18,9 +18,9 @@ use Rattle.model.specs.Lookup.{lookup, row-start, row-length, row-part}
 use Rattle.model.specs.Firmware.{words-of, Answers-lookup}
 use Rattle.plan.specs.declared.Plan.{Plan}
 use Rattle.plan.specs.Memory.{lines, empty-plan}
-use Rattle.plan.specs.declared.refusals.Refusal.{Refusal}
-use Rattle.plan.specs.declared.refusals.Refusal.the-variants as refusal
-use Rattle.plan.specs.Refusing.{refusal-of}
+use Rattle.refusals.specs.declared.Refusal.{Refusal}
+use Rattle.refusals.specs.declared.Refusal.the-variants as refusal
+use Rattle.refusals.specs.Refusing.{refusal-of}
 use Rattle.plan_reader.specs.declared.Read.{Read}
 use Rattle.plan_reader.specs.Answer.{reading-of, Emptied}
 use Rattle.plan_writer.specs.declared.Written.{Written}
@@ -54,7 +54,7 @@ pub record Demand-1 : Type 0 where
   -- to every text one refusal applies first, or none
   pub some-first : (text : List ℕ) (on : Lines → List Sentence) → (x : m.Refusal) × First-of-text text on x
   pub one-first : (text : List ℕ) (on : Lines → List Sentence) (x y : m.Refusal) → First-of-text text on x → First-of-text text on y → x ≡ y
-  -- `plan::refusals::refuse`
+  -- `refusals::refuse`
   pub refusing : (p : Plan) (r : Refusal) → refusal-of r ≡ plan-refusal (lines p) → First-of (plan-sentences (lines p)) (refusal-of r)
   -- `plan_reader::read_plan`: a refusal hands out the empty plan
   pub reading : (text : List ℕ) (r : Read) → Answers-text text (reading-of r) → Emptied r →

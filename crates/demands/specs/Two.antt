@@ -22,7 +22,7 @@ use Rattle.model.specs.Listing.{listing}
 use Rattle.words.specs.Bytes.{bytes-of}
 use Rattle.plan.specs.declared.Plan.{Plan}
 use Rattle.plan.specs.Memory.{lines}
-use Rattle.plan.specs.declared.refusals.Refusal.the-variants as refusal
+use Rattle.refusals.specs.declared.Refusal.the-variants as refusal
 use Rattle.plan_reader.specs.declared.Read.{Read}
 use Rattle.plan_reader.specs.Answer.{reading-of}
 use Rattle.plan_writer.specs.declared.Written.{Written}

@@ -1,9 +1,9 @@
 // The kernel lookup: which entry of a table a unit takes up next.
 use plan::Plan;
-use plan::refusals::Refusal;
-use plan::refusals::refuse;
 use plan::tables::edge_table;
 use plan::tables::process_table;
+use refusals::Refusal;
+use refusals::refuse;
 ghost use mathlib.Core.Path.{_≡_};
 ghost use Prim.Native.Nat.{_+_, _/_, _≤_, _<_};
 ghost use lib.ListN.{length, drop};

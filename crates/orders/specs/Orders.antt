@@ -1,6 +1,6 @@
 -- The fixed orders of planning: what each part of the arrays holds, in the words of the model.
 -- Assumes nothing.
-use Prim.Native.Nat.{ℕ, _<_}
+use Prim.Native.Nat.{ℕ, _<_, _≤_}
 use mathlib.Core.Bool.{not, _&&_}
 use lib.Dec.{eqb}
 use Rattle.lists.specs.Lists.{keep}
@@ -8,6 +8,7 @@ use Rattle.model.specs.Plan.{process, edge, into, local, unit}
 use Rattle.model.specs.Planning.{turns, queue}
 use Rattle.plan.specs.declared.Plan.{Plan}
 use Rattle.plan.specs.Memory.{lines}
+use Rattle.plan.specs.Refusing.{at}
 use Rattle.orders.specs.declared.Orders.{Orders}
 use Rattle.orders.specs.Groups.{Part}
 
@@ -16,3 +17,10 @@ pub record Ordered (p : Plan) (o : Orders) : Type 0 where
   pub turns : (u : ℕ) → u < p .slots → Part (o .turnfirst) (o .turn) u (keep (λ i. eqb (unit (lines p) i) u) (turns (lines p)))
   pub queue : (n : ℕ) → n < p .slots →
       Part (o .queuefirst) (o .queue) n (keep (λ e. eqb (process (lines p) (edge (lines p) e .from) .node) n && not (local (lines p) e)) (queue (lines p)))
+  -- every place is one of 128, and every number that of an edge or of a process, or 0
+  pub into-places : (k : ℕ) → at (o .intofirst) k ≤ 128
+  pub turn-places : (k : ℕ) → at (o .turnfirst) k ≤ 128
+  pub queue-places : (k : ℕ) → at (o .queuefirst) k ≤ 128
+  pub into-numbers : (j : ℕ) → at (o .into) j < 128
+  pub turn-numbers : (j : ℕ) → at (o .turn) j < 64
+  pub queue-numbers : (j : ℕ) → at (o .queue) j < 128

@@ -1,4 +1,4 @@
--- Refusals 2 to 9 over the arrays of a plan: the tests that the code makes, and the refusal that an answer stands for.
+-- Refusals 2 to 9 over the arrays of a plan: the tests that the code makes.
 -- Assumes nothing.
 use Prim.Native.Nat.{ℕ, _+_, _*_}
 use mathlib.Core.Bool.{Bool, false, not, _&&_, _||_}
@@ -6,15 +6,7 @@ use mathlib.Core.List.{List, [], _∷_}
 use lib.Dec.{eqb, leb, ltb}
 use lib.ListN.{getD}
 use Rattle.lists.specs.Lists.{if_then_else_, any, below, earlier}
-use Rattle.model.specs.Refusals.{outside, nothing, refused}
-use Rattle.model.specs.Refusals as m
-use Rattle.plan.specs.declared.refusals.Refusal.{Refusal}
-use Rattle.plan.specs.declared.refusals.Refusal.the-variants.{Nothing, Refused}
-
--- the refusal that an answer stands for
-abbrev pub refusal-of : Refusal → m.Refusal
-refusal-of Nothing = nothing
-refusal-of (Refused n) = refused n
+use Rattle.model.specs.Refusals.{outside}
 
 -- number i of an array
 abbrev pub at : List ℕ → ℕ → ℕ
@@ -72,10 +64,9 @@ unfoldable pub slot-bytes : List ℕ → List ℕ → ℕ → List ℕ → ℕ
 slot-bytes slot bytes node [] = 0
 slot-bytes slot bytes node (i ∷ is) = if eqb (at slot i) node then at bytes i else slot-bytes slot bytes node is
 
--- 9: a message is between nodes and longer than the slot of its sender's node
-unfoldable pub longer : List ℕ → List ℕ → List ℕ → ℕ → ℕ → ℕ → ℕ → Bool
-longer node slot room slots from to bytes =
-    not (eqb (at node from) (at node to)) && ltb (slot-bytes slot room (at node from) (below slots)) bytes
+-- 9: a message from node a to node b is between nodes, and longer than the slot of a
+unfoldable pub longer : List ℕ → List ℕ → ℕ → ℕ → ℕ → ℕ → Bool
+longer slot room slots a b bytes = not (eqb a b) && ltb (slot-bytes slot room a (below slots)) bytes
 
 unfoldable pub too-long-at : List ℕ → List ℕ → List ℕ → ℕ → List ℕ → List ℕ → List ℕ → ℕ → Bool
-too-long-at node slot room slots from to bytes i = longer node slot room slots (at from i) (at to i) (at bytes i)
+too-long-at node slot room slots from to bytes i = longer slot room slots (at node (at from i)) (at node (at to i)) (at bytes i)

@@ -1,5 +1,4 @@
 // The plan in memory: structs by value, counts and arrays. `lines` in specs/ says which lines of document 01 it stands for.
-pub mod refusals;
 pub mod tables;
 
 ghost use mathlib.Core.Path.{_≡_};

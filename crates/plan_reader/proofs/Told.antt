@@ -5,8 +5,8 @@ use mathlib.Core.List.{List}
 use Prim.Native.Nat.{ℕ}
 use Rattle.model.specs.Text.{reads, not-read, after-refusal, Answers-text}
 use Rattle.plan.specs.Memory.{lines}
-use Rattle.plan.specs.Refusing.{refusal-of}
-use Rattle.plan.specs.declared.refusals.Refusal.the-variants.{Nothing, Refused}
+use Rattle.refusals.specs.Refusing.{refusal-of}
+use Rattle.refusals.specs.declared.Refusal.the-variants.{Nothing, Refused}
 use Rattle.plan_reader.specs.declared.Read.{Read}
 use Rattle.plan_reader.specs.Answer.{reading-of}
 

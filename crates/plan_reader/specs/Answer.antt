@@ -4,8 +4,8 @@ use Prim.Native.Nat.{ℕ}
 use mathlib.Core.Path.{_≡_}
 use Rattle.model.specs.Text.{Reading, after-refusal}
 use Rattle.plan.specs.Memory.{lines, empty-plan}
-use Rattle.plan.specs.Refusing.{refusal-of}
-use Rattle.plan.specs.declared.refusals.Refusal.the-variants.{Refused}
+use Rattle.refusals.specs.Refusing.{refusal-of}
+use Rattle.refusals.specs.declared.Refusal.the-variants.{Refused}
 use Rattle.plan_reader.specs.declared.Read.{Read}
 
 -- the lines of the plan, or the refusal's number

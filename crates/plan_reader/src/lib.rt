@@ -3,8 +3,8 @@ mod runs;
 
 use plan::Plan;
 use plan::empty;
-use plan::refusals::Refusal;
-use plan::refusals::refuse;
+use refusals::Refusal;
+use refusals::refuse;
 use runs::all_conditions;
 use runs::all_edges;
 use runs::all_processes;
@@ -15,7 +15,7 @@ ghost use mathlib.Core.Path.{_≡_};
 ghost use Rattle.model.specs.Refusals.{plan-refusal};
 ghost use Rattle.model.specs.Text.{Answers-text, not-read, after-refusal};
 ghost use Rattle.plan.specs.Memory.{lines};
-ghost use Rattle.plan.specs.Refusing.{refusal-of};
+ghost use Rattle.refusals.specs.Refusing.{refusal-of};
 ghost use Rattle.plan_reader.specs.Answer.{reading-of, Emptied};
 
 // What a text is read as: the plan, or a refusal and the empty plan.

@@ -1,12 +1,12 @@
 // The plan writer: a plan in memory as plan text in lent bytes.
 use plan::Plan;
-use plan::refusals::Refusal;
-use plan::refusals::refuse;
 use plan_lines::put_condition;
 use plan_lines::put_edge;
 use plan_lines::put_head;
 use plan_lines::put_process;
 use plan_lines::put_slot;
+use refusals::Refusal;
+use refusals::refuse;
 ghost use mathlib.Core.Path.{_≡_};
 ghost use Prim.Native.Nat.{_≤_};
 ghost use lib.Dec.{ltb};

@@ -11,15 +11,15 @@ use Rattle.board.proofs.Bounds.{senders-small}
 use Rattle.board.proofs.laid_out.Statement.{statement}
 use Rattle.board.proofs.laid_out.Tie as tie
 
--- the beginning, seen from behind the last array taken out of the tables, from behind the orders, and from behind the senders
-abbrev start : tie.After-queue-list → tie.Start
+-- the beginning, seen from behind the last array taken out of the tables, from behind the edges, and from behind the senders
+abbrev start : tie.After-queue → tie.Start
 start c = c .before .before .before .before .before .before .before .before .before .before .before .before .before .before .before .before
 
-abbrev ordered : tie.After-numbers-below-bound3 → tie.Start
-ordered c = start (c .before .before .before .before .before .before .before .before .before)
+abbrev led : tie.After-remotes → tie.Start
+led c = start (c .before .before .before)
 
 abbrev owned : tie.After-row-senders → tie.Start
-owned c = ordered (c .before .before .before .before)
+owned c = led (c .before .before .before .before)
 
 add-tell : tie.Need-add-tell
 add-tell c = let h = c .pre in omega (arith, h .few-processes, h .few-edges)
@@ -39,27 +39,9 @@ cues-requires c κs = let h = start (c .before) .pre in (h .few-edges, (omega (a
 remotes-requires : tie.Need-remotes-requires
 remotes-requires c κs = let h = start (c .before .before) .pre in (h .few-edges, (h .senders, (h .receivers, h .nodes)))
 
-places-requires : tie.Need-places-requires
-places-requires c κs = search needs
-
-numbers-below-bound-requires : tie.Need-numbers-below-bound-requires
-numbers-below-bound-requires c κs = search needs
-
-places-requires-2 : tie.Need-places-requires-2
-places-requires-2 c κs = search needs
-
-numbers-below-bound-requires-2 : tie.Need-numbers-below-bound-requires-2
-numbers-below-bound-requires-2 c κs = search needs
-
-places-requires-3 : tie.Need-places-requires-3
-places-requires-3 c κs = search needs
-
-numbers-below-bound-requires-3 : tie.Need-numbers-below-bound-requires-3
-numbers-below-bound-requires-3 c κs = search needs
-
 row-senders-requires : tie.Need-row-senders-requires
 row-senders-requires c κs =
-    let h = ordered (c .before .before .before) .pre in
+    let h = led (c .before .before .before) .pre in
     (h .few-processes, (omega (arith, h .few-edges), (omega (arith, h .few-conditions), (h .senders, h .deciders))))
 
 row-spans-requires : tie.Need-row-spans-requires
@@ -87,13 +69,7 @@ unfolding board-of
 returns c =
     let spanned = c .before .before in
     let sent = spanned .before .before .before .before in
-    let queued = sent .before .before .before .before in
-    let queued-from = queued .before in
-    let turned = queued-from .before in
-    let turned-from = turned .before in
-    let led = turned-from .before in
-    let led-from = led .before in
-    let told = led-from .before in
+    let told = sent .before .before .before .before in
     let cued = told .before in
     let counted = cued .before in
     let a = start (counted .before) .args in
@@ -120,12 +96,12 @@ returns c =
       kind = a .e .kind;
       condition = a .e .condition;
       decider = a .t9;
-      intofirst = led-from .places .ensures j;
-      into = led .numbers-below-bound .ensures j;
-      turnfirst = turned-from .places2 .ensures j;
-      turn = turned .numbers-below-bound2 .ensures j;
-      queuefirst = queued-from .places3 .ensures j;
-      queue = queued .numbers-below-bound3 .ensures j;
+      intofirst = a .o .intofirst;
+      into = a .o .into;
+      turnfirst = a .o .turnfirst;
+      turn = a .o .turn;
+      queuefirst = a .o .queuefirst;
+      queue = a .o .queue;
       round = a .t .round;
       offset = a .t .offset;
       lasts = a .t .ticks;
@@ -145,12 +121,6 @@ laid-out-spec =
     cast-cues
     cues-requires
     remotes-requires
-    places-requires
-    numbers-below-bound-requires
-    places-requires-2
-    numbers-below-bound-requires-2
-    places-requires-3
-    numbers-below-bound-requires-3
     row-senders-requires
     row-spans-requires
     row-sizes-requires

@@ -1,7 +1,7 @@
 -- `kernel::lookup` meets its contract: the plan's refusal, or what the search finds.
 -- Assumes nothing.
 use mathlib.Core.Path.{sym, ap, _∙_}
-use Rattle.plan.specs.Refusing.{refusal-of}
+use Rattle.refusals.specs.Refusing.{refusal-of}
 use Rattle.kernel.specs.Finding.{found-of}
 use Rattle.kernel.proofs.Nodes.{is-refused}
 use borrow.Author.Needs.{needs}

@@ -6,6 +6,9 @@ use Prim.Native.Nat.{ℕ}
 use native.Mathlib.Omega.{arith}
 use lib.ListN.{length}
 use borrow.Author.Needs.{needs}
+use Rattle.lists.specs.Lists.{below}
+use Rattle.lists.proofs.Members.{below-in}
+use Rattle.lists.proofs.Sorting.{sort-in}
 use Rattle.lists.proofs.Fill.{fill-length}
 use Rattle.model.specs.Planning.{turns}
 use Rattle.plan.specs.declared.Plan.{Plan}
@@ -122,15 +125,21 @@ returns c =
     let e = m .edge-table .ensures in
     let v = same-weights p h q e (w .before .urgencies .result) (w .before .urgencies .ensures) (w .weights .ensures) in
     record {
-      into = λ i l. subst (Part (g1 .in-groups .result .first) (g1 .in-groups .result .member) i) (same-into p h q e (z .no-numbers .ensures) i) (g1 .in-groups .ensures i l);
+      into = λ i l. subst (Part (g1 .in-groups .result .first) (g1 .in-groups .result .member) i) (same-into p h q e (z .no-numbers .ensures) i) (g1 .in-groups .ensures .parts i l);
       turns =
           λ u l.
           subst (Part (g2 .in-groups2 .result .first) (g2 .in-groups2 .result .member) u)
-          (ap (λ (xs : List ℕ). with-key (at (m .before .process-table .result .node)) xs u) (same-turns p h q e (w .weights .result) v) ∙ same-unit p h q e (turns (lines p)) u) (g2 .in-groups2 .ensures u l);
+          (ap (λ (xs : List ℕ). with-key (at (m .before .process-table .result .node)) xs u) (same-turns p h q e (w .weights .result) v) ∙ same-unit p h q e (turns (lines p)) u) (g2 .in-groups2 .ensures .parts u l);
       queue =
           λ n l.
           subst (Part (g3 .in-groups3 .result .first) (g3 .in-groups3 .result .member) n)
-          (ap (λ (xs : List ℕ). with-key (at (s .sender-keys .result)) xs n) (same-queue p h q e (w .weights .result) v (r .receiver-weights .ensures)) ∙ same-messages p h q e (s .sender-keys .ensures) n l) (g3 .in-groups3 .ensures n l);
+          (ap (λ (xs : List ℕ). with-key (at (s .sender-keys .result)) xs n) (same-queue p h q e (w .weights .result) v (r .receiver-weights .ensures)) ∙ same-messages p h q e (s .sender-keys .ensures) n l) (g3 .in-groups3 .ensures .parts n l);
+      into-places = g1 .in-groups .ensures .places;
+      turn-places = g2 .in-groups2 .ensures .places;
+      queue-places = g3 .in-groups3 .ensures .places;
+      into-numbers = g1 .in-groups .ensures .numbers 128 (omega arith) (λ x i. let l = below-in (p .edges) (sort-in _ (below (p .edges)) i) in omega (arith, few m .edges));
+      turn-numbers = g2 .in-groups2 .ensures .numbers 64 (omega arith) (λ x i. let l = below-in (p .processes) (sort-in _ (below (p .processes)) i) in omega (arith, few m .processes));
+      queue-numbers = g3 .in-groups3 .ensures .numbers 128 (omega arith) (λ x i. let l = below-in (p .edges) (sort-in _ (below (p .edges)) i) in omega (arith, few m .edges));
     }
 
 pub fixed-orders-spec : {M : Type 1} → statement M

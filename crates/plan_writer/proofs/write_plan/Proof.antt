@@ -10,7 +10,7 @@ use Rattle.lists.proofs.Stores.{sets-front}
 use Rattle.model.specs.Refusals.{nothing, plan-refusal}
 use Rattle.model.specs.Text.{print, bytes-after}
 use Rattle.plan.specs.Memory.{lines}
-use Rattle.plan.specs.Refusing.{refusal-of}
+use Rattle.refusals.specs.Refusing.{refusal-of}
 use Rattle.plan_writer.specs.declared.Written.the-variants.{Wrote}
 use Rattle.plan_writer.proofs.Whole.{is-refused, lent-less, lent-enough}
 use borrow.Author.Needs.{needs}
