@@ -1,7 +1,7 @@
 -- Demand 3 over the functions that C calls: whatever text and bytes `riscadru_check_table` accepts with a stated delay, every run of them with answers that keep the
 -- contract of `riscadru_lookup` is right within the delay and exact, for the lines that the text means.
 -- Assumes nothing.
-use Prim.Native.Nat.{ℕ, _-_, _*_, _≤_, _<_}
+use Prim.Native.Nat.{ℕ, _*_, _≤_, _<_}
 use mathlib.Core.Path.{_≡_, sym, ap, _∙_}
 use mathlib.Core.List.{List, _++_}
 use native.Mathlib.Omega.{arith}

@@ -1,12 +1,12 @@
 -- What is found in a table lies in it: the entry that the lookup finds, and the part that holds a row's entries.
 -- Assumes nothing.
-use Prim.Native.Nat.{ℕ, zero, suc, _+_, _-_, _*_, _≤_, _<_}
+use Prim.Native.Nat.{ℕ, suc, _+_, _*_, _≤_, _<_}
 use mathlib.Core.Path.{_≡_, refl}
 use mathlib.Core.Bool.{Bool, true, false}
 use mathlib.Core.List.{List, [], _∷_}
 use native.Mathlib.Omega.{arith}
 use lib.Dec.{eqb}
-use lib.ListN.{length, take, drop, length-drop}
+use lib.ListN.{length, drop, length-drop}
 use Rattle.lists.specs.Lists.{if_then_else_}
 use Rattle.lists.proofs.Counts.{take-most}
 use Rattle.model.specs.Plan.{Lines}

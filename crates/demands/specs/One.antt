@@ -2,7 +2,7 @@
 -- any buffer." One field for each function that is called; what stands before its `Keeps-to` is what the function's `ensures` says of its result, in the
 -- definitions that the `ensures` is written with.
 -- Assumes nothing.
-use Prim.Native.Nat.{ℕ, _+_, _-_, _*_, _/_, _≤_, _<_}
+use Prim.Native.Nat.{ℕ, _+_, _*_, _/_, _≤_, _<_}
 use mathlib.Core.Path.{_≡_}
 use mathlib.Core.Logic.{_⊎_}
 use mathlib.Core.List.{List, _++_}

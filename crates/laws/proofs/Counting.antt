@@ -1,17 +1,17 @@
 -- A table with more entries than combinations times rows has a row that some combination meets twice: each entry that is not ill-formed is met in some combination, and
 -- where refusal 14 finds nothing, a combination meets at most one entry of each row.
 -- Assumes nothing.
-use mathlib.Core.Path.{_≡_, refl, sym, ap, _∙_}
-use mathlib.Core.Bool.{Bool, true, false, not}
-use mathlib.Core.List.{List, [], _∷_, map, List·Memᴰ as In, List·Memᴰ·head as here, List·Memᴰ·tail as there, List·Memᴰ·not-nil as in-none}
-use Prim.Native.Nat.{ℕ, zero, suc, _+_, _*_, _^_, _≤_, _<_}
+use mathlib.Core.Path.{_≡_}
+use mathlib.Core.Bool.{Bool, true, false}
+use mathlib.Core.List.{List, [], _∷_, map, List·Memᴰ as In}
+use Prim.Native.Nat.{ℕ, zero, suc, _*_, _^_, _≤_, _<_}
 use native.Mathlib.Nat.{pow-suc, pow-le-pow-right, mul-le-mul-left}
 use native.Mathlib.Omega.{arith}
 use lib.ListN.{length, length-map}
-use borrow.Author.Tests.{leb-false, not-true}
-use Rattle.lists.specs.Lists.{if_then_else_, any, keep, repeated}
-use Rattle.lists.proofs.Tests.{clash, neither, is-true}
-use Rattle.lists.proofs.Members.{none-in, keep-in, map-in, no-members, one-or-none}
+use borrow.Author.Tests.{leb-false}
+use Rattle.lists.specs.Lists.{any, keep, repeated}
+use Rattle.lists.proofs.Tests.{neither, is-true}
+use Rattle.lists.proofs.Members.{none-in, map-in, one-or-none}
 use Rattle.lists.proofs.Counts.{passing-few}
 use Rattle.lists.proofs.Different.{different-few}
 use Rattle.lists.proofs.Sums.{length-each}

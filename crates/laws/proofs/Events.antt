@@ -15,8 +15,8 @@ use Rattle.lists.proofs.Keep.{keep-map, keep-same}
 use Rattle.lists.proofs.Different.{keep-different, different-parts, different-few}
 use Rattle.model.specs.Plan.{Lines, Slot, process, edge, decider, conditions, local}
 use Rattle.model.specs.Bus.{rows, begins, beginning, edge-row, condition-row, row-bytes, slot-of}
-use Rattle.model.specs.Log.{Placed, Log, message-ready, broadcast-ready}
-use Rattle.model.specs.Planning.{View, State, view, waits-to-tell, waits-to-send, queue, pending, pack, takes, passes-over, starts, sends, step, before, planned}
+use Rattle.model.specs.Log.{message-ready, broadcast-ready}
+use Rattle.model.specs.Planning.{View, waits-to-tell, waits-to-send, queue, pending, pack, takes, passes-over, starts, sends, step, before}
 use Rattle.laws.proofs.Good.{Good}
 use Rattle.laws.proofs.Slots.{slot-own, beginning-in, in-beginning, one-slot-a-tick}
 use Rattle.laws.proofs.Rows.{condition-bytes, edge-bytes}

@@ -3,8 +3,8 @@
 use mathlib.Core.Path.{_≡_, refl, sym, ap, _∙_, subst}
 use mathlib.Core.Logic.{_⊎_, inl, inr}
 use mathlib.Core.Bool.{Bool, true, false, not, _&&_}
-use mathlib.Core.List.{List, [], _∷_, map, List·Memᴰ as In}
-use Prim.Native.Nat.{ℕ, _+_, _*_, _^_, _≤_, _<_}
+use mathlib.Core.List.{List, [], map, List·Memᴰ as In}
+use Prim.Native.Nat.{ℕ, _+_, _^_, _≤_, _<_}
 use native.Mathlib.Omega.{arith}
 use lib.ListN.{length}
 use borrow.Author.Tests.{ltb-true, ltb-false, le-ltb, lt-leb, not-true}
@@ -20,7 +20,7 @@ use Rattle.model.specs.Bus.{slot-of, rows, is-process, is-edge, row-edge, edge-
 use Rattle.model.specs.Log.{Placed, Log, full-ticks, over, placed, process-end, delay}
 use Rattle.model.specs.Planning.{bound, planned}
 use Rattle.model.specs.Refusals.{nothing, plan-refusal}
-use Rattle.model.specs.Table.{Entry, known-bits, bits-within, column-met, entry-of, key, Planned, plans, frame-key, wider, frames, result, entry-words, entries-of}
+use Rattle.model.specs.Table.{Entry, known-bits, bits-within, column-met, entry-of, key, Planned, plans, frame-key, wider, frames, result, entry-words}
 use Rattle.model.specs.Checking.{ill-formed, own, met-entries, met-log, due, greatest-delay, Sound}
 use Rattle.model.specs.Run.{Ask}
 use Rattle.model.specs.Demand.{Answered, Demand-3}

@@ -14,8 +14,8 @@ use Rattle.lists.specs.Lists.{any, each, below}
 use Rattle.lists.proofs.Tests.{two, same-test}
 use Rattle.lists.proofs.Members.{any-in, none-in, each-in, in-each, in-below}
 use Rattle.lists.proofs.Sums.{sum-zero}
-use Rattle.model.specs.Plan.{Lines, Slot, process, edge, decider}
-use Rattle.model.specs.Bus.{begins, first-beginning, round, rows, slot-of, row-bytes}
+use Rattle.model.specs.Plan.{Lines, Slot, edge, decider}
+use Rattle.model.specs.Bus.{begins, first-beginning, round, rows}
 use Rattle.model.specs.Log.{Placed, Log, placed, full-ticks, span}
 use Rattle.model.specs.Planning.{View, view, starts, pending, takes, sends, bound, planned}
 use Rattle.model.specs.Checking.{due}
@@ -24,10 +24,10 @@ use Rattle.laws.proofs.Good.{Good}
 use Rattle.laws.proofs.Once.{unique}
 use Rattle.laws.proofs.OnlyDue.{only-due}
 use Rattle.laws.proofs.Potential.{lasts, left, Over-by, to-go, start-in-bound, go-later, go-new, go-item, go-runs, left-over, none-left}
-use Rattle.laws.proofs.Rows.{placed-in, in-over, over-placed, done-by, edge-bytes, condition-bytes}
-use Rattle.laws.proofs.Slots.{slot-own, beginning-begins, beginning-within, in-beginning}
+use Rattle.laws.proofs.Rows.{placed-in, in-over, over-placed, done-by}
+use Rattle.laws.proofs.Slots.{beginning-begins, beginning-within, in-beginning}
 use Rattle.laws.proofs.Events.{pending-fits}
-use Rattle.laws.proofs.Steps.{Started, Pending, broadcast, message, Taken, pending-item, pending-in, in-pending, pack-some, starts-in, in-starts, takes-in, seen, log-at, view-at, new-at, new-in, log-next}
+use Rattle.laws.proofs.Steps.{Started, Pending, broadcast, message, Taken, pending-item, in-pending, pack-some, starts-in, in-starts, takes-in, seen, log-at, view-at, new-at, new-in, log-next}
 
 module _ (p : Lines) (c : List Bool) (g : Good p) (count : length c ≡ length (p .conditions)) where
   -- some ticks later less is left, by at least as much

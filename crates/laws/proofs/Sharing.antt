@@ -10,23 +10,23 @@ use native.Mathlib.Omega.{arith}
 use lib.Dec.{eqb, leb, ltb}
 use lib.ListN.{length, getD}
 use borrow.Author.Tests.{eq-eqb, eqb-true, eqb-false, leb-true, leb-false, ltb-true, ltb-false}
-use Rattle.lists.specs.Lists.{keep, repeated}
+use Rattle.lists.specs.Lists.{repeated}
 use Rattle.lists.proofs.Tests.{two, clash, is-false}
 use Rattle.lists.proofs.Members.{keep-in, in-keep, no-members, in-map}
 use Rattle.lists.proofs.Different.{different-parts}
 use Rattle.model.specs.Plan.{Lines, Slot, process, unit}
 use Rattle.model.specs.Activity.{Heard}
 use Rattle.model.specs.Bus.{condition-row, rows, sender, row-node, begins, transit, slot-ticks, slot-of}
-use Rattle.model.specs.Log.{Placed, Log, of-row, full-ticks, span, over, known}
+use Rattle.model.specs.Log.{Placed, Log, of-row, full-ticks, span, known}
 use Rattle.model.specs.Planning.{State, before, bound, planned}
 use Rattle.model.specs.Refusals.{plan-refusal, nothing}
-use Rattle.model.specs.Table.{Entry, Planned, known-bits, value-bits, entry-of, made-entries}
+use Rattle.model.specs.Table.{Entry, known-bits, value-bits, entry-of, made-entries}
 use Rattle.laws.proofs.Good.{Good, good}
 use Rattle.laws.proofs.Slots.{slots-apart, slot-own, one-slot-a-tick}
-use Rattle.laws.proofs.Rows.{done-by, known-by, over-in, in-over, item-span, sender-in}
+use Rattle.laws.proofs.Rows.{done-by, over-in, item-span, sender-in}
 use Rattle.laws.proofs.Rules.{Kept}
 use Rattle.laws.proofs.Steps.{log-at}
-use Rattle.laws.proofs.Once.{rows-of, rows-once, unique}
+use Rattle.laws.proofs.Once.{rows-once, unique}
 use Rattle.laws.proofs.OnlyDue.{only-due}
 use Rattle.laws.proofs.History.{grows, history, back, over-then}
 use Rattle.laws.proofs.NonAnticipation.{known-agree, non-anticipation}

@@ -1,9 +1,9 @@
 -- Of a plan in which refusals 2 to 9 find nothing the start table has at most 12,672 entries and the frame list at most 8,576 frames: one entry for each row
 -- and combination, and one frame for each row of an item and combination. And its worst delay is at most 999,999,999.
 -- Assumes nothing.
-use mathlib.Core.Path.{_≡_, refl, sym, ap, _∙_}
+use mathlib.Core.Path.{_≡_, sym, ap, _∙_}
 use mathlib.Core.Bool.{Bool, true, false, not}
-use mathlib.Core.List.{List, [], _∷_, _++_, map, List·Memᴰ as In}
+use mathlib.Core.List.{List, [], _++_, map, List·Memᴰ as In}
 use Prim.Native.Nat.{ℕ, _+_, _-_, _*_, _^_, _≤_, _<_}
 use native.Mathlib.Nat.{pow-le-pow-right}
 use native.Mathlib.Omega.{arith}
@@ -21,7 +21,7 @@ use Rattle.model.specs.Bus.{rows, is-process}
 use Rattle.model.specs.Log.{Log, of-row, placed, full-ticks, delay}
 use Rattle.model.specs.Planning.{State, bound, planned}
 use Rattle.model.specs.Refusals.{nothing, plan-refusal}
-use Rattle.model.specs.Table.{Entry, Frame, entry-of, key, one-of-two, Planned, plans, made-entries, row-entries, frame-of, frame-key, wider, frames, result, entry-words, frame-words}
+use Rattle.model.specs.Table.{Entry, entry-of, key, one-of-two, Planned, plans, made-entries, row-entries, frame-of, frame-key, wider, frames, result, entry-words, frame-words}
 use Rattle.laws.proofs.Bound.{bound-small, delay-within}
 use Rattle.laws.proofs.Combinations.{combination-length}
 use Rattle.laws.proofs.Good.{good}

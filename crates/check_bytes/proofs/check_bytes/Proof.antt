@@ -1,9 +1,7 @@
 -- `check_bytes::check_bytes` meets its contract: 12, or the answer to few entries or to many.
 -- Assumes nothing.
-use mathlib.Core.Path.{_≡_, ap, _∙_}
+use mathlib.Core.Path.{ap, _∙_}
 use Prim.Native.Nat.{ℕ, _%_}
-use native.Mathlib.Omega.{arith}
-use lib.ListN.{length}
 use borrow.Author.Needs.{needs}
 use Rattle.model.specs.Firmware.{words-of}
 use Rattle.plan.specs.Memory.{lines}
