@@ -23,9 +23,10 @@ use Rattle.model.specs.Table.{Entry, entries-of}
 use Rattle.model.specs.Checking.{ill-formed, met-log, not-once, uses-unknown, too-early, off-slot, overlap, share-byte, greatest-delay, in-some, table-refusal, check}
 use Rattle.board.specs.declared.Board.{Board}
 use Rattle.checker.specs.declared.Checked.the-variants.{Accepted, Refused}
-use Rattle.checker.specs.Checker.{answer-of, first-of, found-by, least, found-all, judged-by, Tabled}
-use Rattle.checker.proofs.Least.{refusal-at, least-same, least-in, least-chain}
-use Rattle.checker.proofs.Trying.{found-first, found-delay}
+use Rattle.combination.specs.Combination.{first-of, found-by, least, found-all, Tabled}
+use Rattle.checker.specs.Checker.{answer-of, judged-by}
+use Rattle.combination.proofs.Least.{refusal-at, least-same, least-in, least-chain}
+use Rattle.combination.proofs.Trying.{found-first, found-delay}
 
 -- refusals 14 to 20
 abbrev pub later : Lines → List Entry → ℕ → Refusal

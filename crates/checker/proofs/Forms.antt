@@ -18,7 +18,8 @@ use Rattle.model.specs.Checking.{ill-formed}
 use Rattle.board.specs.declared.Board.{Board}
 use Rattle.board.specs.Board.{Boarded}
 use Rattle.sentences.proofs.Bits.{shared-within}
-use Rattle.checker.specs.Checker.{local-row, ill-formed-by, Small}
+use Rattle.combination.specs.Combination.{Small}
+use Rattle.checker.specs.Checker.{local-row, ill-formed-by}
 
 -- the values of an entry are one of the table's words
 values-small : (words : List ℕ) (m : ℕ) → ((i : ℕ) → i < length words → getD words i 0 < m) → (e : Entry) → In e (entries-of words) → e .values < m

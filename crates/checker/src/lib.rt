@@ -1,31 +1,21 @@
 // The checker: a plan in memory, the words of a start table and the delay stated for it in; accepted, or the number of the first refusal that
 // applies, out. It tries 2 to 9 on the plan, 12 and 13 on the words, then 14 to 19 in every combination, and 20 on the stated delay.
-use board::Board;
 use board::of_plan;
-use board::unmet;
-use met::MetRows;
-use met::due_rows;
-use met::met_rows;
-use met::miscounts;
+use combination::Found;
+use combination::try_all;
 use plan::Plan;
 use refusals::Refusal;
 use refusals::refuse;
-use sentences::guesses;
-use sentences::latest;
-use sentences::off_slot;
-use sentences::overlap;
-use sentences::share_byte;
-use sentences::too_early;
 ghost use mathlib.Core.Path.{_≡_};
-ghost use Prim.Native.Nat.{_+_, _%_, _^_, _<_, _≤_, max, min};
-ghost use lib.ListN.{getD, length, replicate};
-ghost use Rattle.lists.specs.Lists.{any, fill};
+ghost use Prim.Native.Nat.{_+_, _%_, _^_, _≤_};
+ghost use lib.ListN.{length};
+ghost use Rattle.lists.specs.Lists.{any};
 ghost use Rattle.model.specs.Refusals.{nothing, plan-refusal};
 ghost use Rattle.model.specs.Table.{entries-of};
 ghost use Rattle.model.specs.Checking.{table-refusal, check};
 ghost use Rattle.plan.specs.Memory.{lines};
 ghost use Rattle.met.specs.Table.{entry-from};
-ghost use Rattle.checker.specs.Checker.{answer-of, local-row, ill-formed-by, too-early-in, first-in, found-by, found-all, judged-by, Tabled, Tried};
+ghost use Rattle.checker.specs.Checker.{answer-of, local-row, ill-formed-by, judged-by};
 
 // What the checker answers: accepted, or the number of the first refusal that applies.
 pub enum Checked {
@@ -33,40 +23,10 @@ pub enum Checked {
     Refused(u32),
 }
 
-// What is found in one combination, or in all: the first of refusals 14 to 19 that applies, 20 if none does, and the delay.
-struct Found {
-    first: u32,
-    delay: u32,
-}
-
 fn wide(x: u32) -> usize
     ensures { λ r. ⌜ r ≡ x ⌝ }
 {
     x as usize
-}
-
-fn greater(x: u32, y: u32) -> u32
-    ensures { λ r. ⌜ r ≡ max x y ⌝ }
-{
-    if x < y {
-        return y;
-    }
-    x
-}
-
-fn smaller(a: u32, b: u32) -> u32
-    ensures { λ r. ⌜ r ≡ min a b ⌝ }
-{
-    if a < b {
-        return a;
-    }
-    b
-}
-
-fn no_processes() -> [u32; 64]
-    ensures { λ r. ⌜ r ≡ replicate 64 0 ⌝ }
-{
-    [0u32; 64]
 }
 
 // How many combinations some conditions have. It is pub for the crate check_bytes.
@@ -159,141 +119,6 @@ fn some_ill_formed<'a>(
         at += 5;
     }
     false
-}
-
-// The processes that are active where these rows are due: 1, or 0.
-fn active_of(due: &[u32; 198], processes: usize) -> [u32; 64]
-    requires { ⌜ processes ≤ 64 ⌝ }
-    ensures { λ r. ⌜ r ≡ fill 64 (λ i. getD (now (due .entry)) i 0) processes ⌝ }
-{
-    let mut active = no_processes();
-    let mut i: usize = 0;
-    while i < processes {
-        active[i] = due[i];
-        i += 1;
-    }
-    active
-}
-
-// Refusal 16 in the combination with number c, whose met entries are m and whose active processes are `active`.
-fn starts_early(b: Board, m: MetRows, active: [u32; 64], c: u32) -> bool
-    requires { ⌜ Tried b m ⌝ }
-    ensures { λ r. ⌜ r ≡ too-early-in b m active c ⌝ }
-{
-    let kind = b.kind;
-    let condition = b.condition;
-    let missed = unmet(&kind, &condition, b.edges, c);
-    let remote = b.remote;
-    let from = b.from;
-    let cue = b.cue;
-    let decider = b.decider;
-    let first = b.intofirst;
-    let into = b.into;
-    let comes = m.comes;
-    let span = b.span;
-    too_early(
-        b.processes,
-        b.tell,
-        b.rows,
-        &remote,
-        &from,
-        &cue,
-        &missed,
-        &decider,
-        &first,
-        &into,
-        &active,
-        &comes,
-        &span,
-    )
-}
-
-// The first of refusals 15 to 19 that applies in the combination with number c, and 20 if none does.
-fn first_found(b: Board, m: MetRows, active: [u32; 64], c: u32) -> u32
-    requires { ⌜ Tried b m ⌝ }
-    ensures { λ r. ⌜ r ≡ first-in b m active c ⌝ }
-{
-    let comes = m.comes;
-    let span = b.span;
-    let known = m.known;
-    if guesses(&comes, &span, &known, b.tell, b.conditions, b.rows) {
-        return 15;
-    }
-    if starts_early(b, m, active, c) {
-        return 16;
-    }
-    let offset = b.offset;
-    let sender = b.sender;
-    if off_slot(
-        b.processes,
-        b.rows,
-        b.round,
-        &offset,
-        &sender,
-        &comes,
-        &span,
-    ) {
-        return 17;
-    }
-    let node = b.node;
-    if overlap(b.processes, &node, &comes, &span) {
-        return 18;
-    }
-    let rooms = b.rooms;
-    let size = b.size;
-    let place = m.place;
-    if share_byte(
-        b.processes,
-        b.rows,
-        &rooms,
-        &sender,
-        &size,
-        &place,
-        &comes,
-        &span,
-    ) {
-        return 19;
-    }
-    20
-}
-
-// What is found in the combination with number c. Where 14 applies the others are not tried.
-fn try_combination(b: Board, table: &[u32], c: u32) -> Found
-    requires { ⌜ Tabled b (now table) ⌝ ∗ ⌜ c < 2 ^ b .conditions ⌝ }
-    ensures { λ r. ⌜ r ≡ found-by b (now (table .entry)) c ⌝ }
-{
-    let span = b.span;
-    let m = met_rows(table, c, &span);
-    let due = due_rows(b, c);
-    let count = m.count;
-    if miscounts(&count, &due, b.rows) {
-        return Found {
-            first: 14,
-            delay: 0,
-        };
-    }
-    let active = active_of(&due, b.processes);
-    let first = first_found(b, m, active, c);
-    let comes = m.comes;
-    let delay = latest(&comes, b.processes);
-    Found { first, delay }
-}
-
-// What is found in all combinations: the least of their first refusals, and the greatest of their delays.
-fn try_all(b: Board, table: &[u32], combinations: u32) -> Found
-    requires { ⌜ Tabled b (now table) ⌝ ∗ ⌜ combinations ≡ 2 ^ b .conditions ⌝ }
-    ensures { λ r. ⌜ r ≡ found-all b (now (table .entry)) combinations ⌝ }
-{
-    let mut first: u32 = 20;
-    let mut delay: u32 = 0;
-    let mut c: u32 = 0;
-    while c < combinations {
-        let found = try_combination(b, table, c);
-        first = smaller(first, found.first);
-        delay = greater(delay, found.delay);
-        c += 1;
-    }
-    Found { first, delay }
 }
 
 // The answer to what is found in all combinations, given the stated delay.

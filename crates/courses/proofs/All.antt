@@ -28,7 +28,8 @@ use Rattle.board.specs.declared.Board.{Board}
 use Rattle.board.specs.Board.{Boarded}
 use Rattle.entries.specs.Logs.{block, numbered, plan-of}
 use Rattle.courses.specs.Courses.{Laid-out, log-of, delay-of, passes-by, passes-of, Stored, Taken-over, One, First, Planned-all}
-use Rattle.courses.proofs.Storing.{block-at, block-stored, block-before, notes-own, notes-last, notes-others}
+use Rattle.resume.proofs.Blocks.{block-at}
+use Rattle.courses.proofs.Storing.{block-stored, block-before, notes-own, notes-last, notes-others}
 use Rattle.courses.proofs.Single.{passes-few}
 
 -- the greatest and the sum with one more at the end
@@ -196,10 +197,10 @@ plans-below p f =
     ∙ map-map f (λ c. plan-of p c) (below (2 ^ length (p .conditions)))
 
 -- All combinations.
-pub sofar-end : (b : Board) (n latest : ℕ) (comes place since notes passed : List ℕ) → n ≡ 2 ^ b .conditions → n ≤ 64 → Sofar b n latest comes place since notes passed → (delay : ℕ) → delay ≡ latest - 1 →
-    (p : Lines) → plan-refusal p ≡ nothing → Boarded p b → Planned-all p (b .span) (record { delay = delay; passed = passed }) comes place since
+pub sofar-end : (b : Board) (n latest : ℕ) (comes place since notes passed : List ℕ) → n ≡ 2 ^ b .conditions → n ≤ 64 → Sofar b n latest comes place since notes passed →
+    (p : Lines) → plan-refusal p ≡ nothing → Boarded p b → Planned-all p (b .span) (record { delay = latest; passed = passed }) comes place since
 unfolding result passed-by
-sofar-end b n latest comes place since notes passed e few s worst d p fine o =
+sofar-end b n latest comes place since notes passed e few s p fine o =
     let f : First p (b .span) n latest comes place since notes passed = s .first p fine o in
     let q : n ≡ 2 ^ length (p .conditions) = e ∙ ap (λ (k : ℕ). 2 ^ k) (o .conditions-count) in
     let k : b .slots ≡ length (p .slots) = o .slots-count in
@@ -210,7 +211,7 @@ sofar-end b n latest comes place since notes passed e few s worst d p fine o =
           let w : getD (block comes c) r 0 ≡ getD comes (c * 198 + r) 0 = block-at comes c r (omega arith) in
           f .taken-over c (omega arith) r l (λ z. some (sym w ∙ z)) (omega (arith, w));
       delay =
-          d ∙ f .delay ∙ ap (λ (m : ℕ). greatest (map (delay-of p) (below m))) q
+          f .delay ∙ ap (λ (m : ℕ). greatest (map (delay-of p) (below m))) q
           ∙ ap greatest (sym (plans-below p (λ s. delay p (full-ticks p) (s .state .log))));
       passed = λ m l.
           f .counted m l ∙ ap (λ (k : ℕ). sum (map (passes-of p m) (below k))) q

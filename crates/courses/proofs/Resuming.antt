@@ -6,10 +6,9 @@ use mathlib.Core.Logic.{_⊎_, inl, inr}
 use mathlib.Core.Bool.{Bool, true, false}
 use mathlib.Core.List.{List, [], _∷_, List·Memᴰ as In, List·Memᴰ·head as here}
 use Prim.Native.Nat.{ℕ, zero, suc, _+_, _-_, _*_, _≤_, _<_, max}
-use native.Mathlib.Numerals.{add-one}
 use native.Mathlib.Omega.{arith}
 use lib.Dec.{eqb, leb, ltb}
-use lib.ListN.{length, getD, set, length-set, length-replicate, List·getD-eq-default}
+use lib.ListN.{length, getD, length-set, length-replicate, List·getD-eq-default}
 use lib.Seq.{getD-set-same, getD-set-other}
 use borrow.Author.Tests.{eqb-true, eqb-false, lt-ltb, le-ltb, ltb-true, ltb-false, leb-true, leb-false}
 use Rattle.lists.specs.Lists.{if_then_else_, keep, fill}
@@ -33,7 +32,7 @@ use Rattle.starting.specs.Busy.{Busy}
 use Rattle.course.specs.Course.{from-clock}
 use Rattle.course.proofs.Standing.{past, At}
 use Rattle.course.proofs.Planned.{from-at}
-use Rattle.courses.specs.Resume.{cut-at, cut, ends-below, no-value}
+use Rattle.resume.specs.Resume.{cut-at, cut, ends-below, no-value}
 
 -- a row of an array that holds a plan
 getD-past : (xs : List ℕ) (r : ℕ) → length xs ≤ r → getD xs r 0 ≡ 0
@@ -161,16 +160,6 @@ module _ (node rows : List ℕ) (small : (i : ℕ) → getD node i 0 < 8) where
       at : (eqb k (getD node n 0) ≡ true) ⊎ (eqb k (getD node n 0) ≡ false) → Ends-some n k → Ends-some (suc n) k
       at (inl e) s = own (sym (eqb-true _ _ e)) (two (ltb (getD (ends n) k 0) (getD rows n 0))) s
       at (inr e) s = more s (ends-other n k (eqb-false _ _ e))
-
--- one turn of the loop
-pub ends-next : (node rows : List ℕ) (i n m : ℕ) (ends : List ℕ) → ends ≡ ends-below node rows i → n ≡ getD node i 0 → m ≡ max (getD ends n 0) (getD rows i 0) →
-    set ends n m ≡ ends-below node rows (i + 1)
-unfolding ends-below
-ends-next node rows i n m ends e q r =
-    ap (set ends n) r
-    ∙ ap (λ (k : ℕ). set ends k (max (getD ends k 0) (getD rows i 0))) q
-    ∙ ap (λ (xs : List ℕ). set xs (getD node i 0) (max (getD xs (getD node i 0) 0) (getD rows i 0))) e
-    ∙ ap (ends-below node rows) (sym (add-one i))
 
 -- Where the arrays hold what is placed before a tick, this is where the nodes' last processes end.
 module _ (p : Lines) (passes : plan-refusal p ≡ nothing) (d : List Bool) (count : length d ≡ length (p .conditions)) (t : ℕ) (rows place node : List ℕ)

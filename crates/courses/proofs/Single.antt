@@ -8,7 +8,7 @@ use Prim.Native.Nat.{ℕ, zero, suc, _+_, _-_, _*_, _^_, _≤_, _<_}
 use native.Mathlib.Omega.{arith}
 use lib.Dec.{eqb}
 use lib.ListN.{length, getD, replicate, length-append, length-map}
-use Rattle.lists.specs.Lists.{if_then_else_, keep, below, greatest}
+use Rattle.lists.specs.Lists.{if_then_else_, keep}
 use Rattle.lists.proofs.Counts.{keep-short}
 use Rattle.model.specs.Plan.{Lines, Slot}
 use Rattle.model.specs.Bus.{condition-row, beginning}
@@ -18,16 +18,18 @@ use Rattle.laws.proofs.Good.{Good, good}
 use Rattle.laws.proofs.Slots.{beginning-in}
 use Rattle.laws.proofs.Steps.{view-at}
 use Rattle.laws.proofs.Events.{one-begins, passed-few}
+use Rattle.readiness.specs.Reading.{last-end-by}
 use Rattle.readiness.specs.Holding.{Holds, Held}
+use Rattle.readiness.proofs.Readings.{last-end-link}
 use Rattle.board.specs.declared.Board.{Board}
 use Rattle.board.specs.Layout.{unmet-by}
 use Rattle.board.specs.Board.{Boarded}
 use Rattle.course.specs.Course.{Moment, Ended, from-clock}
-use Rattle.course.proofs.Planned.{first-at, Plans, leads-planned, delay-planned}
+use Rattle.course.proofs.Planned.{first-at, Plans, leads-planned}
 use Rattle.entries.specs.Logs.{numbered}
-use Rattle.courses.specs.Courses.{log-of, delay-of, passes-by, passes-of, Ready, Kept, Stored}
+use Rattle.courses.specs.Courses.{log-of, passes-by, passes-of, Ready, Kept, Stored}
 use Rattle.courses.proofs.Adding.{added-at, added-long}
-use Rattle.courses.proofs.Sources.{width}
+use Rattle.resume.proofs.Sources.{width}
 
 -- where planning of a combination stands at a clock, the clock is 1 or more and there are eight counts
 pub ready-start : (p : Lines) (c start : ℕ) (ends rows places counts noted : List ℕ) → Ready p c start ends rows places counts noted → 1 ≤ start
@@ -44,9 +46,8 @@ pub ready-first : (p : Lines) (c : ℕ) (ends rows places counts noted : List �
 ready-first p c ends rows places counts noted ea ra pa ca na = record { tick = 0; at-tick = rw (ea, ra, pa, ca, na) (first-at p (numbered p c)) }
 
 -- combination c is planned, in arrays of its own
-pub record Course (p : Lines) (c latest : ℕ) (rows places counts noted : List ℕ) : Type 0 where
+pub record Course (p : Lines) (c : ℕ) (rows places counts noted : List ℕ) : Type 0 where
   pub held : Held p (log-of p c) rows places
-  pub delay : latest - 1 ≡ delay-of p c
   pub counted : (n : ℕ) → n < length (p .slots) → getD counts n 0 ≡ passes-of p n c
   pub counts-long : length counts ≡ 8
   pub noting : (k : ℕ) → k < length (p .conditions) → 0 < getD rows (condition-row p k) 0 → (m : ℕ) → m < length (p .slots) →
@@ -111,7 +112,7 @@ module _ (p : Lines) (passes : plan-refusal p ≡ nothing) where
         (start : ℕ) (ends rows places counts noted : List ℕ) → Ready p c start ends rows places counts noted →
         (latest : ℕ) (rows-after places-after counts-after noted-after : List ℕ) →
         Ended b unmet (from-clock start 0 ends rows places counts noted) latest rows-after places-after counts-after noted-after →
-        Course p c latest rows-after places-after counts-after noted-after
+        Course p c rows-after places-after counts-after noted-after
     course-of c l unmet q start ends rows places counts noted r latest rows-after places-after counts-after noted-after e =
         let h : Holds p (numbered p c) (b .from) (b .cue) unmet (b .remote) (b .several) (b .intofirst) (b .into) =
         subst (λ (xs : List ℕ). Holds p (numbered p c) (b .from) (b .cue) xs (b .remote) (b .several) (b .intofirst) (b .into)) (sym q) (o .holds c l) in
@@ -120,9 +121,6 @@ module _ (p : Lines) (passes : plan-refusal p ≡ nothing) where
         leads-planned p passes (numbered p c) (width p c l) b unmet o h _ f (e .leads) (r .tick) (r .at-tick) in
         record {
           held = rw (e .rows, e .places) (k .held);
-          delay =
-              ap (λ (x : ℕ). x - 1) (e .last ∙ ap (λ (n : ℕ). greatest (map (λ n. getD (f .busy) n 0) (below n))) (o .slots-count))
-              ∙ delay-planned p passes (numbered p c) (width p c l) b unmet o h (f .comes) (f .place) (f .busy) (f .passed) (f .noted) k;
           counted = λ n m. ap (λ (xs : List ℕ). getD xs n 0) (e .counts) ∙ k .counts n m;
           counts-long = ap length (e .counts) ∙ k .passed-long;
           noting = rw (e .rows, e .notes-end) (k .noting);
@@ -130,11 +128,11 @@ module _ (p : Lines) (passes : plan-refusal p ≡ nothing) where
         }
 
     -- its rows and notes stored and its counts added
-    pub stored-of : (c latest : ℕ) (rows places counts noted : List ℕ) → Course p c latest rows places counts noted → (clock : ℕ) (comes place since notes passed : List ℕ) → length passed ≡ 8 →
+    pub stored-of : (c latest : ℕ) (rows places counts noted : List ℕ) → Course p c rows places counts noted → latest ≡ last-end-by rows (b .processes) → (clock : ℕ) (comes place since notes passed : List ℕ) → length passed ≡ 8 →
         {comes-after place-after since-after notes-after passed-after : List ℕ} →
         Kept c clock (b .slots) rows places counts noted comes place since notes passed comes-after place-after since-after notes-after passed-after →
         Stored p c latest comes place notes passed comes-after place-after notes-after passed-after
-    stored-of c latest rows places counts noted k clock comes place since notes passed long s =
+    stored-of c latest rows places counts noted k e clock comes place since notes passed long s =
         let n : b .slots ≡ length (p .slots) = o .slots-count in
         record {
           rows = rows;
@@ -149,7 +147,7 @@ module _ (p : Lines) (passes : plan-refusal p ≡ nothing) where
           rows-stored = s .rows-stored;
           places-stored = s .places-stored;
           notes-stored = s .notes-stored;
-          delay = k .delay;
+          delay = e ∙ ap (last-end-by rows) (o .processes-count) ∙ last-end-link p (log-of p c) rows places (k .held);
           counted = λ m l.
               ap (λ (xs : List ℕ). getD xs m 0) (s .counts-added)
               ∙ added-at counts passed (b .slots) m (omega arith) (omega (arith, o .few-slots))

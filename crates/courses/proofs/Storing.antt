@@ -6,10 +6,8 @@ use mathlib.Core.List.{List, [], _∷_}
 use Prim.Native.Nat.{ℕ, zero, suc, _+_, _*_, _≤_, _<_}
 use native.Mathlib.Omega.{arith}
 use lib.ListN.{length, getD, set, take, drop, length-set}
-use lib.Seq.{sets, sets-eq, take-set-le, length-take-le, length-slice, length-sets, ext-getD, getD-take, getD-drop, getD-set-same, getD-set-other}
+use lib.Seq.{sets, sets-eq, take-set-le, length-take-le, length-sets, getD-set-same, getD-set-other}
 use mathlib.Core.List.{append-assoc}
-use Rattle.lists.specs.Lists.{fill}
-use Rattle.lists.proofs.Fill.{fill-at, fill-length}
 use Rattle.lists.proofs.Parts.{middle}
 use Rattle.entries.specs.Logs.{block}
 
@@ -32,17 +30,6 @@ block-stored all rows c q l =
 -- an earlier one is as it was
 pub block-before : (all rows : List ℕ) (c d : ℕ) → d < c → block (sets all (c * 198) rows) d ≡ block all d
 block-before all rows c d l = ap (drop (d * 198)) (take-sets (d * 198 + 198) all (c * 198) rows (omega arith))
-
--- what stands in combination c's part, and the part put together number by number
-pub block-at : (xs : List ℕ) (c r : ℕ) → r < 198 → getD (block xs c) r 0 ≡ getD xs (c * 198 + r) 0
-block-at xs c r l = getD-drop (c * 198) (take (c * 198 + 198) xs) r 0 ∙ getD-take (c * 198 + 198) xs (c * 198 + r) 0 (omega arith)
-
-pub block-filled : (xs : List ℕ) (c : ℕ) → c * 198 + 198 ≤ length xs → fill 198 (λ r. getD xs (c * 198 + r) 0) 198 ≡ block xs c
-block-filled xs c l =
-    let f : ℕ → ℕ = λ r. getD xs (c * 198 + r) 0 in
-    let n : length (fill 198 f 198) ≡ 198 = fill-length 198 f 198 in
-    ext-getD 0 (fill 198 f 198) (block xs c) (omega (arith, n, length-slice (c * 198) (c * 198 + 198) xs l))
-    (λ i u. fill-at 198 f 198 i (omega arith) (omega (arith, n, u)) ∙ sym (block-at xs c i (omega (arith, n, u))))
 
 -- numbers stored one after another: before the first place everything is as it was, and then they stand there
 sets-before : (xs : List ℕ) (i j : ℕ) (vs : List ℕ) → j < i → getD (sets xs i vs) j 0 ≡ getD xs j 0

@@ -3,14 +3,14 @@
 -- Assumes nothing.
 use mathlib.Core.Path.{_≡_, refl, sym, ap, _∙_, subst, subst₂}
 use mathlib.Core.Logic.{_⊎_, inl, inr}
-use mathlib.Core.Bool.{Bool, true, false}
+use mathlib.Core.Bool.{true, false}
 use mathlib.Core.List.{List, List·Memᴰ as In, List·Memᴰ·head as here}
 use Prim.Native.Nat.{ℕ, zero, suc, _+_, _-_, _*_, _^_, _≤_, _<_}
 use native.Mathlib.Omega.{arith}
 use lib.Dec.{eqb, leb}
 use lib.ListN.{length, getD}
 use borrow.Author.Tests.{eq-eqb, ne-eqb, leb-true, leb-false}
-use Rattle.lists.specs.Lists.{if_then_else_, keep}
+use Rattle.lists.specs.Lists.{keep}
 use Rattle.lists.proofs.Tests.{two}
 use Rattle.lists.proofs.Members.{keep-in}
 use Rattle.lists.proofs.Fill.{fill-at, fill-past, fill-length, zeros-at}
@@ -23,6 +23,7 @@ use Rattle.model.specs.Table.{made-entries}
 use Rattle.laws.proofs.Good.{good}
 use Rattle.laws.proofs.Bound.{bound-small}
 use Rattle.laws.proofs.Sharing.{in-plan, plan-in, Shared, made-same}
+use Rattle.readiness.specs.Reading.{last-end-by}
 use Rattle.readiness.specs.Holding.{Row, absent, stands, Held}
 use Rattle.board.specs.declared.Board.{Board}
 use Rattle.board.specs.Layout.{unmet-by}
@@ -30,22 +31,13 @@ use Rattle.board.specs.Board.{Boarded}
 use Rattle.course.specs.Course.{Ended, from-clock}
 use Rattle.course.proofs.Standing.{At}
 use Rattle.entries.specs.Logs.{block, numbered, plan-of}
-use Rattle.courses.specs.declared.Source.{Source}
-use Rattle.courses.specs.Resume.{no-value, arrival, cut, ends-below, Sourced, counts-from, notes-from, counts-at, Resumed, begins, goes-on}
+use Rattle.resume.specs.declared.Source.{Source}
+use Rattle.resume.specs.Resume.{no-value, arrival, cut, ends-below, Sourced, counts-from, notes-from, counts-at, Resumed, begins, goes-on}
 use Rattle.courses.specs.Courses.{log-of, Ready, Earlier, Kept, Taken-over, One}
-use Rattle.courses.proofs.Storing.{block-at}
-use Rattle.courses.proofs.Sources.{arrival-never, arrival-at, width, from-less, from-within, elsewhere}
+use Rattle.resume.proofs.Blocks.{block-at}
+use Rattle.resume.proofs.Sources.{arrival-never, arrival-at, width, from-less, from-within, elsewhere}
 use Rattle.courses.proofs.Resuming.{by-bound, resumes-until, resumes-never}
 use Rattle.courses.proofs.Single.{ready-first, Course, passes-few, passes-late, course-of, stored-of}
-
--- the counts of a source stand among the notes
-pub counts-within : (s : Source) → s .from < 64 → s .condition < 6 → counts-at s ≤ 3576
-unfolding counts-at
-counts-within s l m = at (eqb (s .clock) no-value)
-  where
-    at : (t : Bool) → (if t then s .from * 56 + 48 else s .from * 56 + s .condition * 8) ≤ 3576
-    at true = omega arith
-    at false = omega arith
 
 module _ (p : Lines) (passes : plan-refusal p ≡ nothing) (b : Board) (o : Boarded p b) (c : ℕ) (l : c < 2 ^ length (p .conditions)) (comes place notes : List ℕ) (e : Earlier p c comes place notes)
     (s : Source) (given : Sourced comes (b .tell) (b .conditions) c s) where
@@ -248,13 +240,13 @@ module _ (p : Lines) (passes : plan-refusal p ≡ nothing) (b : Board) (o : Boar
       at (goes-on t) =
           subst (λ (x : ℕ). Taken-over p c rows-after (b .span) x) (sym (t .until)) (next-taken p passes b o c l comes place notes e (t .source) (t .sourced) rows-after places-after h)
 
-  pub one-of : (unmet : List ℕ) → unmet ≡ unmet-by (b .kind) (b .condition) (b .edges) c → {latest : ℕ} {rows-after places-after counts-after noted-after : List ℕ} →
-      Ended b unmet (from-clock clock 0 ends rows places counts noted) latest rows-after places-after counts-after noted-after → (since passed : List ℕ) → length passed ≡ 8 →
+  pub one-of : (unmet : List ℕ) → unmet ≡ unmet-by (b .kind) (b .condition) (b .edges) c → {answer : ℕ} {rows-after places-after counts-after noted-after : List ℕ} →
+      Ended b unmet (from-clock clock 0 ends rows places counts noted) answer rows-after places-after counts-after noted-after → {latest : ℕ} → latest ≡ last-end-by rows-after (b .processes) → (since passed : List ℕ) → length passed ≡ 8 →
       {comes-after place-after since-after notes-after passed-after : List ℕ} →
       Kept c clock (b .slots) rows-after places-after counts-after noted-after comes place since notes passed comes-after place-after since-after notes-after passed-after →
       One p (b .span) c latest comes place since notes passed comes-after place-after since-after notes-after passed-after
-  one-of unmet q {latest} {rows-after} {places-after} {counts-after} {noted-after} f since passed long s =
-      let k : Course p c latest rows-after places-after counts-after noted-after =
-      course-of p passes b o c l unmet q clock ends rows places counts noted resumed-ready latest rows-after places-after counts-after noted-after f in
-      let x = stored-of p passes b o c latest rows-after places-after counts-after noted-after k clock comes place since notes passed long s in
+  one-of unmet q {answer} {rows-after} {places-after} {counts-after} {noted-after} f {latest} d since passed long s =
+      let k : Course p c rows-after places-after counts-after noted-after =
+      course-of p passes b o c l unmet q clock ends rows places counts noted resumed-ready answer rows-after places-after counts-after noted-after f in
+      let x = stored-of p passes b o c latest rows-after places-after counts-after noted-after k d clock comes place since notes passed long s in
       record { stored = x; clock = clock; since-stored = s .since-stored; taken-over = resumed-taken (x .rows) (x .places) (x .held) }

@@ -66,7 +66,7 @@ pub record Kept (c clock slots : ℕ) (rows places counts noted comes place sinc
   pub notes-stored : notes-after ≡ sets (sets notes (c * 56) noted) (c * 56 + 48) counts
   pub counts-added : passed-after ≡ added counts passed slots
 
--- Combination c is planned: its rows and what was noted are stored, its counts are added. `latest` is the clock at which its last process ends, or 0.
+-- Combination c is planned: its rows and what was noted are stored, its counts are added. `latest` is the tick at which its last process ends, or 0.
 pub record Stored (p : Lines) (c latest : ℕ) (comes place notes passed comes-after place-after notes-after passed-after : List ℕ) : Type 0 where
   pub rows : List ℕ
   pub places : List ℕ
@@ -81,7 +81,7 @@ pub record Stored (p : Lines) (c latest : ℕ) (comes place notes passed comes-a
   pub rows-stored : comes-after ≡ sets comes (c * 198) rows
   pub places-stored : place-after ≡ sets place (c * 198) places
   pub notes-stored : notes-after ≡ sets (sets notes (c * 56) noted) (c * 56 + 48) counts
-  pub delay : latest - 1 ≡ delay-of p c
+  pub delay : latest ≡ delay-of p c
   pub counted : (n : ℕ) → n < length (p .slots) → getD passed-after n 0 ≡ getD passed n 0 + passes-of p n c
   pub passed-long : length passed-after ≡ 8
 
@@ -97,11 +97,11 @@ pub record One (p : Lines) (lasting : List ℕ) (c latest : ℕ) (comes place si
   pub since-stored : since-after ≡ set since c clock
   pub taken-over : Taken-over p c (stored .rows) lasting clock
 
--- The combinations below n are planned. `latest` is the clock at which the last process of all ends, or 0.
+-- The combinations below n are planned. `latest` is the tick at which the last process of all ends, or 0.
 pub record First (p : Lines) (lasting : List ℕ) (n latest : ℕ) (comes place since notes passed : List ℕ) : Type 0 where
   pub earlier : Earlier p n comes place notes
   pub taken-over : (c : ℕ) → c < n → Taken-over p c (block comes c) lasting (getD since c 0)
-  pub delay : latest - 1 ≡ greatest (map (delay-of p) (below n))
+  pub delay : latest ≡ greatest (map (delay-of p) (below n))
   pub counted : (k : ℕ) → k < length (p .slots) → getD passed k 0 ≡ sum (map (passes-of p k) (below n))
 
 -- All combinations are planned: the arrays hold the log of each, the totals are the worst delay and the pass-over counts of the nodes, and a row that

@@ -1,2 +1,1 @@
-pub mod Resume
 pub mod Courses

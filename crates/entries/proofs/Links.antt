@@ -34,58 +34,21 @@ use Rattle.laws.proofs.Rows.{Kind, a-process, an-edge, a-condition, kind, sende
 use Rattle.laws.proofs.Rules.{Kept}
 use Rattle.laws.proofs.Safety.{planning-keeps}
 use Rattle.laws.proofs.Slots.{slot-in}
-use Rattle.mask.specs.Masks.{under, mask-from}
-use Rattle.mask.proofs.Known.{known-built, values-built}
+use Rattle.mask.proofs.Known.{values-built}
 use Rattle.mask.proofs.Numbered.{combinations-count, combination-number}
-use Rattle.readiness.specs.Reading.{within, came-by}
+use Rattle.readiness.specs.Reading.{known-by}
 use Rattle.readiness.specs.Holding.{Row, absent, stands}
+use Rattle.readiness.proofs.Readings.{known-small, known-same, known-link}
 use Rattle.ascending.specs.Among.{multiple}
 use Rattle.ascending.proofs.Putting.{put-all-append}
 use Rattle.ascending.proofs.Multiples.{numbers-ascend}
-use Rattle.entries.specs.Numbers.{number, known-by, number-at, row-number, row-numbers, Readable}
+use Rattle.entries.specs.Numbers.{number, number-at, row-number, row-numbers, Readable}
 use Rattle.entries.specs.Words.{five, row-part, table, Listed}
 use Rattle.entries.specs.Logs.{entry-from, block, numbered, plan-of, Logs}
 use Rattle.entries.proofs.Gathering.{each-next, row-absent, row-taken-over, row-own}
-use Rattle.entries.proofs.Small.{numbers-join, known-small}
+use Rattle.entries.proofs.Small.{numbers-join}
 use Rattle.entries.proofs.Writing.{table-length}
 use Rattle.entries.proofs.Keys.{entries-put, put-again, entry-made, number-of-entry, number-back}
-
--- a test and another, over a list: the other over what passes the first
-any-keep : {A : Type 0} (f g : A → Bool) (xs : List A) → any (λ x. f x && g x) xs ≡ any g (keep f xs)
-any-keep f g [] = refl
-any-keep f g (x ∷ xs) = at (f x) (any-keep f g xs)
-  where
-    at : (b : Bool) → any (λ x. f x && g x) xs ≡ any g (keep f xs) → ((b && g x) || any (λ x. f x && g x) xs) ≡ any g (if b then (x ∷ keep f xs) else keep f xs)
-    at true r = ap (λ (z : Bool). g x || z) r
-    at false r = r
-
-leb-suc : (a b : ℕ) → leb (suc a) (suc b) ≡ leb a b
-leb-suc a b = at (two (leb a b))
-  where
-    at : (leb a b ≡ true) ⊎ (leb a b ≡ false) → leb (suc a) (suc b) ≡ leb a b
-    at (inl e) = le-leb (suc a) (suc b) (let l = leb-true a b e in omega arith) ∙ sym e
-    at (inr e) = lt-leb (suc a) (suc b) (let l = leb-false a b e in omega arith) ∙ sym e
-
-mask-same : (f g : ℕ → Bool) (a n : ℕ) → ((k : ℕ) → a ≤ k → k < a + n → f k ≡ g k) → mask-from f a n ≡ mask-from g a n
-mask-same f g a zero h = refl
-mask-same f g a (suc n) h =
-    let r = mask-same f g (suc a) n (λ k l m. h k (omega arith) (omega arith)) in
-    λ i. under (h a (omega arith) (omega arith) i) (r i)
-
--- a row is over by a tick just where the array says so
-over-row : (p : Lines) (log : Log) (r come at t : ℕ) → Row p log r come at → over p (full-ticks p) log t r ≡ within come (suc t)
-unfolding over
-over-row p log r come at t (absent e z) =
-    any-keep (λ x. eqb (x .row) r) (λ x. leb (x .tick + span p (full-ticks p) r) t) log
-    ∙ ap (any (λ x. leb (x .tick + span p (full-ticks p) r) t)) e
-    ∙ ap (λ (x : ℕ). within x (suc t)) (sym z)
-over-row p log r come at t (stands s e z) =
-    any-keep (λ x. eqb (x .row) r) (λ x. leb (x .tick + span p (full-ticks p) r) t) log
-    ∙ ap (any (λ x. leb (x .tick + span p (full-ticks p) r) t)) e
-    ∙ or-false (leb (s + span p (full-ticks p) r) t)
-    ∙ sym (leb-suc (s + span p (full-ticks p) r) t)
-    ∙ ap (λ (b : Bool). not b && leb (suc (s + span p (full-ticks p) r)) (suc t)) (sym (ne-eqb (suc (s + span p (full-ticks p) r)) 0 (λ q. omega arith)))
-    ∙ ap (λ (x : ℕ). within x (suc t)) (sym z)
 
 block-at : (xs : List ℕ) (c r : ℕ) → r < 198 → getD (block xs c) r 0 ≡ getD xs (c * 198 + r) 0
 block-at xs c r l = getD-drop (c * 198) (take (c * 198 + 198) xs) r 0 ∙ getD-take (c * 198 + 198) xs (c * 198 + r) 0 (omega arith)
@@ -161,14 +124,10 @@ module _ (p : Lines) (passes : plan-refusal p ≡ nothing) (comes place since la
 
   -- the masks of an entry's column
   known-mask : (c t : ℕ) → c < count → known-bits (known p (numbered p c) (over p (full-ticks p) (log-of c) t)) ≡ known-by comes (c * 198 + tell) conditions# (suc t)
-  unfolding known-by came-by
   known-mask c t h =
-      known-built p (numbered p c) (over p (full-ticks p) (log-of c) t)
-      ∙ mask-same (λ k. over p (full-ticks p) (log-of c) t (condition-row p k)) (λ k. came-by comes (suc t) (c * 198 + tell + k)) 0 conditions#
-      (λ k l m.
-      let b : condition-row p k < 198 = omega (arith, few-rows) in
-      over-row p (log-of c) (condition-row p k) _ _ t (row-at (condition-row p k) c b h)
-      ∙ ap (λ (x : ℕ). within (getD comes x 0) (suc t)) (omega arith))
+      known-link p (log-of c) (block comes c) (block place c) (L .held c h) (numbered p c) t
+      ∙ known-same (block comes c) comes tell (c * 198 + tell) conditions# (suc t)
+      (λ k l. block-at comes c (tell + k) (omega (arith, few-rows)) ∙ ap (λ (x : ℕ). getD comes x 0) (omega arith))
 
   value-mask : (c t : ℕ) → c < count →
       value-bits (known p (numbered p c) (over p (full-ticks p) (log-of c) t)) ≡ bitAnd (known-by comes (c * 198 + tell) conditions# (suc t)) c

@@ -1,7 +1,6 @@
 // The entries of a table, from the logs of all combinations: row by row as numbers in order, each once, and then as words.
 use ascending::put;
-use mask::with_bit;
-use readiness::came;
+use readiness::known;
 ghost use mathlib.Core.Path.{_≡_};
 ghost use Prim.Native.Nat.{ℕ, max, _+_, _*_, _^_, _<_, _≤_};
 ghost use lib.ListN.{getD, length};
@@ -11,22 +10,8 @@ ghost use Rattle.lists.specs.Front.{front};
 ghost use Rattle.lists.specs.Ordered.{put-all};
 ghost use Rattle.lists.proofs.Order.{Ascending};
 ghost use Rattle.ascending.specs.Among.{multiple};
-ghost use Rattle.entries.specs.Numbers.{number, known-by, number-at, row-number, row-numbers, Readable, Stands};
+ghost use Rattle.entries.specs.Numbers.{number, number-at, row-number, row-numbers, Readable, Stands};
 ghost use Rattle.entries.specs.Words.{five, table, Laid, Listed};
-
-// The mask of the conditions known by clock u, where the rows of the conditions start at `base`: condition 0 the lowest bit.
-fn known(comes: &[u32; 12672], base: usize, conditions: usize, u: u32) -> u32
-    requires { ⌜ (base + conditions ≤ 12672) × (conditions ≤ 6) ⌝ }
-    ensures { λ r. ⌜ (r ≡ known-by (now (comes .entry)) base conditions u) × (r < 64) ⌝ }
-{
-    let mut mask: u32 = 0;
-    let mut k = conditions;
-    while 0 < k {
-        k -= 1;
-        mask = with_bit(mask, came(comes[base + k], u));
-    }
-    mask
-}
 
 // An entry of a row as one number: in the order of these numbers, entries stand by tick, known, values, place.
 fn packed(tick: u32, known: u32, values: u32, place: u32) -> u64

@@ -1,4 +1,4 @@
--- Masks built from their highest bit down: their bits, their members, and the turns of the loop that builds one.
+-- Masks built from their highest bit down: their bits, their members, the turns of the loop that builds one, and masks of tests that agree.
 -- Assumes nothing.
 use mathlib.Core.Path.{_≡_, refl, sym, ap, _∙_}
 use mathlib.Core.Bool.{Bool, true, false}
@@ -89,3 +89,10 @@ built-start f n = rw (sub-self n)
 pub built-step : (f : ℕ → Bool) (n k : ℕ) → 0 < k → k ≤ n → under (f (k - 1)) (mask-from f k (n - k)) ≡ mask-from f (k - 1) (n - (k - 1))
 built-step f n zero p l = absurd (omega arith)
 built-step f n (suc k) p l = let d : suc k - 1 ≡ k = omega arith in let e : n - k ≡ suc (n - suc k) = omega arith in rw (d, e)
+
+-- tests that agree on the numbers give the same mask
+pub built-same : (f g : ℕ → Bool) (a n : ℕ) → ((k : ℕ) → a ≤ k → k < a + n → f k ≡ g k) → mask-from f a n ≡ mask-from g a n
+built-same f g a zero h = refl
+built-same f g a (suc n) h =
+    let r = built-same f g (suc a) n (λ k l m. h k (omega arith) (omega arith)) in
+    λ i. under (h a (omega arith) (omega arith) i) (r i)

@@ -8,7 +8,8 @@ use mathlib.Core.Bool.{Bool, true, false, not, _&&_, _||_}
 use mathlib.Core.List.{List, map}
 use lib.Dec.{eqb, leb}
 use lib.ListN.{getD, set, replicate}
-use Rattle.lists.specs.Lists.{if_then_else_, any, all, upfrom}
+use Rattle.lists.specs.Lists.{if_then_else_, any, all, upfrom, below, greatest}
+use Rattle.mask.specs.Masks.{mask-from}
 
 -- a row with x in `comes` is over by the clock
 abbrev pub within : ℕ → ℕ → Bool
@@ -72,6 +73,14 @@ module _ (from cue unmet comes : List ℕ) (u : ℕ) where
     unfoldable pub may-run-by : ℕ → List ℕ
     may-run-by zero = replicate 64 0
     may-run-by (suc n) = set (may-run-by n) n (bit (runs-by (may-run-by n) n))
+
+-- the mask of the conditions known by the clock, where the rows of the conditions start at `base`
+unfoldable pub known-by : List ℕ → ℕ → ℕ → ℕ → ℕ
+known-by comes base conditions u = mask-from (λ k. came-by comes u (base + k)) 0 conditions
+
+-- the tick at which the last of the processes ends, 0 where none is placed
+unfoldable pub last-end-by : List ℕ → ℕ → ℕ
+last-end-by comes processes = greatest (map (λ i. getD comes i 0) (below processes)) - 1
 
 -- the numbers in the arrays are rows and edges
 pub record Within (from cue into : List ℕ) : Type 0 where

@@ -1,10 +1,11 @@
 // What a log in memory says of one combination: which messages are ready, which edges have delivered or never will, which processes are
-// ready, and which may still run. specs/Reading.antt says what the arrays hold.
+// ready, which may still run, which conditions are known, and when the last process ends. specs/Reading.antt says what the arrays hold.
+use mask::with_bit;
 ghost use mathlib.Core.Path.{_≡_};
-ghost use Prim.Native.Nat.{ℕ, _<_, _≤_};
-ghost use lib.ListN.{getD};
+ghost use Prim.Native.Nat.{ℕ, max, _+_, _<_, _≤_};
+ghost use lib.ListN.{getD, length};
 ghost use Rattle.lists.specs.Lists.{all, any};
-ghost use Rattle.readiness.specs.Reading.{within, part, bit, message-by, delivered-by, never-by, carries-by, settled-by, ready-by, runs-by, may-run-by, Within};
+ghost use Rattle.readiness.specs.Reading.{within, part, bit, message-by, delivered-by, never-by, carries-by, settled-by, ready-by, runs-by, may-run-by, known-by, last-end-by, Within};
 
 // A row with `x` in `comes` is over by the clock.
 pub fn came(x: u32, u: u32) -> bool
@@ -285,4 +286,44 @@ pub fn may_run<'a>(
         i += 1;
     }
     run
+}
+
+// The mask of the conditions whose values have arrived by the clock, condition 0 the lowest bit. The row of condition 0 stands at `base`.
+pub fn known(rows: &[u32], base: usize, conditions: usize, u: u32) -> u32
+    requires { ⌜ (base + conditions ≤ length (now rows)) × (conditions ≤ 6) ⌝ }
+    ensures { λ r. ⌜ (r ≡ known-by (now (rows .entry)) base conditions u) × (r < 64) ⌝ }
+{
+    let mut mask: u32 = 0;
+    let mut k = conditions;
+    while 0 < k {
+        k -= 1;
+        mask = with_bit(mask, came(rows[base + k], u));
+    }
+    mask
+}
+
+fn greater(x: u32, y: u32) -> u32
+    ensures { λ r. ⌜ r ≡ max x y ⌝ }
+{
+    if x < y {
+        return y;
+    }
+    x
+}
+
+// The delay of a combination: the tick at which the last of the processes ends, 0 if none is placed. The rows of the processes come first.
+pub fn last_end(rows: &[u32], processes: usize) -> u32
+    requires { ⌜ processes ≤ length (now rows) ⌝ }
+    ensures { λ r. ⌜ r ≡ last-end-by (now (rows .entry)) processes ⌝ }
+{
+    let mut most: u32 = 0;
+    let mut i: usize = 0;
+    while i < processes {
+        most = greater(most, rows[i]);
+        i += 1;
+    }
+    if most == 0 {
+        return 0;
+    }
+    most - 1
 }

@@ -1,2 +1,1 @@
 pub mod Sentences
-pub mod Meeting

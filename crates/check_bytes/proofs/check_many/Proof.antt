@@ -7,7 +7,7 @@ use borrow.Author.Needs.{needs}
 use Rattle.model.specs.Firmware.{words-of}
 use Rattle.plan.specs.Memory.{lines}
 use Rattle.words.proofs.Reading.{words-small}
-use Rattle.checker.specs.Checker.{Small}
+use Rattle.combination.specs.Combination.{Small}
 use Rattle.checker.proofs.Forms.{formed-told}
 use Rattle.checker.proofs.Answers.{answer-13}
 use Rattle.check_bytes.proofs.Many.{answer-14}

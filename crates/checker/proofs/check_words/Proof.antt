@@ -5,8 +5,9 @@ use Prim.Native.Nat.{ℕ}
 use native.Mathlib.Omega.{arith}
 use borrow.Author.Needs.{needs}
 use Rattle.plan.specs.Memory.{lines}
-use Rattle.checker.specs.declared.Found.{Found}
-use Rattle.checker.specs.Checker.{found-all, judged-by, Small, Tabled}
+use Rattle.combination.specs.declared.Found.{Found}
+use Rattle.combination.specs.Combination.{found-all, Small, Tabled}
+use Rattle.checker.specs.Checker.{judged-by}
 use Rattle.checker.proofs.Forms.{formed-told}
 use Rattle.checker.proofs.Answers.{all-judged, answer-12, answer-13, answer-later}
 use Rattle.checker.proofs.check_words.Statement.{statement}

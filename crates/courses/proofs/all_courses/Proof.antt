@@ -1,6 +1,6 @@
 -- `courses::all_courses` meets its contract: before turn c the combinations below c are planned, and the turn plans c from what it takes over.
 -- Assumes nothing.
-use mathlib.Core.Path.{_≡_, _∙_, subst}
+use mathlib.Core.Path.{_≡_, sym, _∙_, subst}
 use Prim.Native.Nat.{ℕ, _≤_, _<_, _^_, _-_}
 use native.Mathlib.Omega.{arith}
 use borrow.Author.Needs.{needs}
@@ -139,41 +139,58 @@ store-requires c κs =
           ),
     )
 
+slice-aggregate-last-end : tie.Need-slice-aggregate-last-end Inv-loop μ-loop
+slice-aggregate-last-end c =
+    let x = planned (c .before .before) in
+    let u = lacking (x .before) in
+    let r = taken u in
+    let i = begun (r .before) in
+    let l = i .before in
+    let d = l .before .before .before .before .pre .0 in
+    let p = d .plan in
+    let o = d .boarded in
+    let e = l .loop .inv .1 .first p (d .passes) o .earlier in
+    let w = resumed-ready p (d .passes) (board l) o (l .loop .c) (among i p o) (l .loop .comes) (l .loop .place) (l .loop .notes) e _ _ _ _ _ _ (r .resume .ensures) in
+    let k = course-of p (d .passes) (board l) o (l .loop .c) (among i p o) (u .unmet .result) (u .unmet .ensures) _ _ _ _ _ _ w _ _ _ _ _ (ended-read (board l) (u .unmet .result) _ _ _ _ _ _ (x .course .ensures)) in
+    sym (k .held .comes-long)
+
+last-end-requires : tie.Need-last-end-requires Inv-loop μ-loop
+last-end-requires c κs =
+    let i = begun (taken (lacking (planned (c .before .before) .before)) .before) in
+    omega (arith, slice-aggregate-last-end c, i .before .before .before .before .before .pre .0 .boarded .few-processes)
+
 greater-requires : tie.Need-greater-requires Inv-loop μ-loop
 greater-requires c κs = search needs
 
 add-c : tie.Need-add-c Inv-loop μ-loop
-add-c c = let l = few (begun (taken (lacking (planned (c .before .before) .before)) .before)) in omega arith
+add-c c = let l = few (begun (taken (lacking (planned (c .before .before .before .before) .before)) .before)) in omega arith
 
 loop-less : tie.Need-loop-less Inv-loop μ-loop
-loop-less c = let t = begun (taken (lacking (planned (c .before .before) .before)) .before) .loop-test .taken in omega (arith, t)
+loop-less c = let t = begun (taken (lacking (planned (c .before .before .before .before) .before)) .before) .loop-test .taken in omega (arith, t)
 
 loop-again : tie.Need-loop-again Inv-loop μ-loop
 loop-again c =
-    let x = planned (c .before .before) in
+    let x = planned (c .before .before .before .before) in
     let u = lacking (x .before) in
     let r = taken u in
     let i = begun (r .before) in
     let l = i .before in
     let s = l .before .before .before .before in (
       (let t = i .loop-test .taken in omega (arith, t)),
-      sofar-next (board l) (s .pre .0) (l .loop .c) (l .loop .latest) (x .course .result) (l .loop .comes) (l .loop .place) (l .loop .since) (l .loop .notes) (l .loop .passed) _ _ _ _ _
+      sofar-next (board l) (s .pre .0) (l .loop .c) (l .loop .latest) (c .before .last-end .result) (l .loop .comes) (l .loop .place) (l .loop .since) (l .loop .notes) (l .loop .passed) _ _ _ _ _
           (few i) (within i) (l .loop .inv .1)
           (λ p f o.
           one-of p f (board l) o (l .loop .c) (among i p o) (l .loop .comes) (l .loop .place) (l .loop .notes) (l .loop .inv .1 .first p f o .earlier) _ _ _ _ _ _ (r .resume .ensures)
-          (u .unmet .result) (u .unmet .ensures) (ended-read (board l) (u .unmet .result) _ _ _ _ _ _ (x .course .ensures)) (l .loop .since) (l .loop .passed) (l .loop .inv .1 .passed-long) (c .before .store .ensures))
+          (u .unmet .result) (u .unmet .ensures) (ended-read (board l) (u .unmet .result) _ _ _ _ _ _ (x .course .ensures)) (c .before .last-end .ensures) (l .loop .since) (l .loop .passed) (l .loop .inv .1 .passed-long) (c .before .before .before .store .ensures))
           (c .greater .ensures),
     )
 
-less-requires : tie.Need-less-requires Inv-loop μ-loop
-less-requires c κs = search needs
-
 returns : tie.Need-returns Inv-loop μ-loop
 returns c =
-    let l = c .before .before in
+    let l = c .before in
     let h = l .before .before .before .how-many .ensures in
-    let q : l .loop .c ≡ l .before .before .before .how-many .result = omega (arith, l .loop .inv .0, c .before .loop-test .left) in
-    sofar-end (board l) (l .loop .c) (l .loop .latest) (l .loop .comes) (l .loop .place) (l .loop .since) (l .loop .notes) (l .loop .passed) (q ∙ h .0) (omega (arith, q, h .1)) (l .loop .inv .1) (c .less .result) (c .less .ensures)
+    let q : l .loop .c ≡ l .before .before .before .how-many .result = omega (arith, l .loop .inv .0, c .loop-test .left) in
+    sofar-end (board l) (l .loop .c) (l .loop .latest) (l .loop .comes) (l .loop .place) (l .loop .since) (l .loop .notes) (l .loop .passed) (q ∙ h .0) (omega (arith, q, h .1)) (l .loop .inv .1)
 
 pub all-courses-spec : {M : Type 1} → statement M
 all-courses-spec =
@@ -195,9 +212,10 @@ all-courses-spec =
     unmet-requires
     course-requires
     store-requires
+    slice-aggregate-last-end
+    last-end-requires
     greater-requires
     add-c
     loop-less
     loop-again
-    less-requires
     returns)

@@ -3,7 +3,8 @@
 use native.Mathlib.Omega.{arith}
 use borrow.Author.Tests.{eq-eqb, ne-eqb}
 use Rattle.readiness.specs.Reading.{placed-by}
-use Rattle.sentences.specs.Sentences.{start-by, guess-by}
+use Rattle.meeting.specs.Meeting.{start-by}
+use Rattle.sentences.specs.Sentences.{guess-by}
 use borrow.Author.Needs.{needs}
 use Rattle.sentences.proofs.guess.Statement.{statement}
 use Rattle.sentences.proofs.guess.Tie as tie
@@ -32,8 +33,8 @@ sub-u c =
     let l = s .pre .3 .lasts (s .args .r) (e .if1 .left) in
     omega arith
 
-heard-requires : tie.Need-heard-requires
-heard-requires c κs = search needs
+known-requires : tie.Need-known-requires
+known-requires c κs = search needs
 
 mul-bits : tie.Need-mul-bits
 mul-bits c = search needs
@@ -45,7 +46,7 @@ returns-2 : tie.Need-returns-2
 unfolding guess-by placed-by start-by
 returns-2 c =
     let d = c .before in
-    simp (ne-eqb _ _ (d .before .before .if1 .left), d .heard .ensures)
+    simp (ne-eqb _ _ (d .before .before .before .if1 .left), d .known .ensures .0)
 
 pub guess-spec : {M : Type 1} → statement M
 guess-spec =
@@ -57,7 +58,7 @@ guess-spec =
     mul-u
     element-copy-out-u
     sub-u
-    heard-requires
+    known-requires
     mul-bits
     element-copy-out-bits
     returns-2)

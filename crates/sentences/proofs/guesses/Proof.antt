@@ -3,17 +3,18 @@
 use mathlib.Core.Path.{_≡_, refl, sym, _∙_}
 use mathlib.Core.Bool.{Bool}
 use Prim.Native.Nat.{ℕ, _-_}
-use Rattle.sentences.specs.Sentences.{some, guess-by, guesses-by}
-use Rattle.sentences.proofs.Loops.{some-next, some-found, some-none}
+use Rattle.meeting.specs.Meeting.{some}
+use Rattle.sentences.specs.Sentences.{guess-by, guesses-by}
+use Rattle.meeting.proofs.Loops.{some-next, some-found, some-none}
 use Rattle.sentences.proofs.guesses.Statement.{statement}
 use borrow.Author.Needs.{needs}
 use Rattle.sentences.proofs.guesses.Tie as tie
 
 abbrev Inv-loop : tie.InvT-loop
-Inv-loop comes span known tell conditions rows r₀ r = some (guess-by comes span known tell conditions) 0 rows ≡ some (guess-by comes span known tell conditions) r rows
+Inv-loop comes span column tell conditions rows r₀ r = some (guess-by comes span column tell conditions) 0 rows ≡ some (guess-by comes span column tell conditions) r rows
 
 abbrev μ-loop : tie.MeasureT-loop
-μ-loop comes span known tell conditions rows r₀ r = rows - r
+μ-loop comes span column tell conditions rows r₀ r = rows - r
 
 loop-holds : tie.Need-loop-holds Inv-loop μ-loop
 loop-holds c =
@@ -27,7 +28,7 @@ unfolding guesses-by
 returns c =
     let l = c .before .before .before in
     let a = l .before .args in
-    let f : ℕ → Bool = guess-by (a .comes .now) (a .span .now) (a .known .now) (a .tell) (a .conditions) in
+    let f : ℕ → Bool = guess-by (a .comes .now) (a .span .now) (a .column .now) (a .tell) (a .conditions) in
     sym (l .loop .inv ∙ some-found f (a .rows) (l .loop .r) (c .before .before .loop-test .taken) (sym (c .before .guess .ensures) ∙ c .if1 .taken))
 
 add-r : tie.Need-add-r Inv-loop μ-loop
@@ -40,7 +41,7 @@ loop-again : tie.Need-loop-again Inv-loop μ-loop
 loop-again c =
     let l = c .before .before .before in
     let a = l .before .args in
-    let f : ℕ → Bool = guess-by (a .comes .now) (a .span .now) (a .known .now) (a .tell) (a .conditions) in
+    let f : ℕ → Bool = guess-by (a .comes .now) (a .span .now) (a .column .now) (a .tell) (a .conditions) in
     l .loop .inv ∙ some-next f (a .rows) (l .loop .r) (c .before .before .loop-test .taken) (sym (c .before .guess .ensures) ∙ c .if1 .left)
 
 returns-2 : tie.Need-returns-2 Inv-loop μ-loop
@@ -48,7 +49,7 @@ unfolding guesses-by
 returns-2 c =
     let l = c .before in
     let a = l .before .args in
-    let f : ℕ → Bool = guess-by (a .comes .now) (a .span .now) (a .known .now) (a .tell) (a .conditions) in
+    let f : ℕ → Bool = guess-by (a .comes .now) (a .span .now) (a .column .now) (a .tell) (a .conditions) in
     sym (l .loop .inv ∙ some-none f (a .rows) (l .loop .r) (c .loop-test .left))
 
 pub guesses-spec : {M : Type 1} → statement M

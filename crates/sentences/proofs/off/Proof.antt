@@ -3,7 +3,8 @@
 use native.Mathlib.Omega.{arith}
 use borrow.Author.Tests.{eq-eqb, ne-eqb}
 use Rattle.readiness.specs.Reading.{placed-by}
-use Rattle.sentences.specs.Sentences.{start-by, off-by}
+use Rattle.meeting.specs.Meeting.{start-by}
+use Rattle.sentences.specs.Sentences.{off-by}
 use borrow.Author.Needs.{needs}
 use Rattle.sentences.proofs.off.Statement.{statement}
 use Rattle.sentences.proofs.off.Tie as tie

@@ -6,8 +6,9 @@ use Prim.Native.Nat.{ℕ, _-_}
 use native.Mathlib.Omega.{arith}
 use borrow.Author.Tests.{eq-eqb, ne-eqb}
 use Rattle.readiness.specs.Reading.{placed-by}
-use Rattle.sentences.specs.Sentences.{some, together-by, overlaps-by}
-use Rattle.sentences.proofs.Loops.{some-next, some-found, some-none}
+use Rattle.meeting.specs.Meeting.{some}
+use Rattle.sentences.specs.Sentences.{together-by, overlaps-by}
+use Rattle.meeting.proofs.Loops.{some-next, some-found, some-none}
 use Rattle.sentences.proofs.overlaps.Statement.{statement}
 use borrow.Author.Needs.{needs}
 use Rattle.sentences.proofs.overlaps.Tie as tie

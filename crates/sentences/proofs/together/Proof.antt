@@ -3,7 +3,8 @@
 use native.Mathlib.Omega.{arith}
 use borrow.Author.Tests.{eq-eqb, ne-eqb, le-leb, lt-leb}
 use Rattle.readiness.specs.Reading.{placed-by}
-use Rattle.sentences.specs.Sentences.{start-by, together-by}
+use Rattle.meeting.specs.Meeting.{start-by}
+use Rattle.sentences.specs.Sentences.{together-by}
 use borrow.Author.Needs.{needs}
 use Rattle.sentences.proofs.together.Statement.{statement}
 use Rattle.sentences.proofs.together.Tie as tie
