@@ -10,12 +10,11 @@ use native.Mathlib.Omega.{arith}
 use lib.Dec.{eqb, ltb}
 use lib.ListN.{length, getD, length-map}
 use borrow.Author.Tests.{ltb-true, ltb-false, leb-false, eq-eqb}
-use Rattle.lists.specs.Lists.{if_then_else_, any, null, keep, below, fill}
+use Rattle.lists.specs.Lists.{if_then_else_, any, null, fill}
 use Rattle.lists.proofs.Tests.{two, neither}
-use Rattle.lists.proofs.Members.{keep-in, below-in, none-in, map-in}
+use Rattle.lists.proofs.Members.{none-in, map-in}
 use Rattle.lists.proofs.Different.{all-there}
 use Rattle.lists.proofs.Fill.{fill-at}
-use Rattle.lists.proofs.Sorting.{sort-in}
 use Rattle.model.specs.Plan.{Slot, Waits, waits-all, waits-any, process, edge, decider, into, local, unit}
 use Rattle.model.specs.Activity.{combinations, says-any, conjunction}
 use Rattle.model.specs.Bus.{slot-ticks, slot-of, rows, sender, row-node, row-bytes, transit}
@@ -30,10 +29,9 @@ use Rattle.plan.specs.Memory.{lines}
 use Rattle.plan.specs.Refusing.{at}
 use Rattle.plan.specs.Tables.{processes-table, edges-table}
 use Rattle.plan.proofs.Links.{processes-length, edges-length, conditions-length, slots-length, process-node, process-ticks, edge-from, edge-to, edge-bytes, edge-kind, edge-condition}
-use Rattle.readiness.specs.Reading.{part, edges-into}
+use Rattle.readiness.specs.Reading.{edges-into}
 use Rattle.readiness.specs.Holding.{cue-row, met-in}
 use Rattle.orders.specs.declared.Orders.{Orders}
-use Rattle.orders.specs.Groups.{Part}
 use Rattle.orders.specs.Orders.{Ordered}
 use Rattle.timetable.specs.declared.Timetable.{Timetable}
 use Rattle.timetable.specs.Bus.{Timed}

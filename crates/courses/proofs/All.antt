@@ -28,7 +28,7 @@ use Rattle.board.specs.declared.Board.{Board}
 use Rattle.board.specs.Board.{Boarded}
 use Rattle.entries.specs.Logs.{block, numbered, plan-of}
 use Rattle.courses.specs.Courses.{Laid-out, log-of, delay-of, passes-by, passes-of, Stored, Taken-over, One, First, Planned-all}
-use Rattle.resume.proofs.Blocks.{block-at}
+use Rattle.entries.proofs.Links.{block-at}
 use Rattle.courses.proofs.Storing.{block-stored, block-before, notes-own, notes-last, notes-others}
 use Rattle.courses.proofs.Single.{passes-few}
 

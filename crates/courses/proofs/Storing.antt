@@ -3,12 +3,13 @@
 -- Assumes nothing.
 use mathlib.Core.Path.{_≡_, refl, sym, ap, _∙_}
 use mathlib.Core.List.{List, [], _∷_}
-use Prim.Native.Nat.{ℕ, zero, suc, _+_, _*_, _≤_, _<_}
+use Prim.Native.Nat.{ℕ, suc, _+_, _*_, _≤_, _<_}
 use native.Mathlib.Omega.{arith}
-use lib.ListN.{length, getD, set, take, drop, length-set}
-use lib.Seq.{sets, sets-eq, take-set-le, length-take-le, length-sets, getD-set-same, getD-set-other}
+use lib.ListN.{length, getD, set, take, drop}
+use lib.Seq.{sets, sets-eq, take-set-le, length-take-le, length-sets}
 use mathlib.Core.List.{append-assoc}
 use Rattle.lists.proofs.Parts.{middle}
+use Rattle.lists.proofs.Stores.{sets-before, sets-at}
 use Rattle.entries.specs.Logs.{block}
 
 -- what stands before the place stored at is as it was
@@ -30,20 +31,6 @@ block-stored all rows c q l =
 -- an earlier one is as it was
 pub block-before : (all rows : List ℕ) (c d : ℕ) → d < c → block (sets all (c * 198) rows) d ≡ block all d
 block-before all rows c d l = ap (drop (d * 198)) (take-sets (d * 198 + 198) all (c * 198) rows (omega arith))
-
--- numbers stored one after another: before the first place everything is as it was, and then they stand there
-sets-before : (xs : List ℕ) (i j : ℕ) (vs : List ℕ) → j < i → getD (sets xs i vs) j 0 ≡ getD xs j 0
-sets-before xs i j [] l = refl
-sets-before xs i j (v ∷ vs) l = sets-before (set xs i v) (suc i) j vs (omega arith) ∙ getD-set-other xs i j v 0 (λ q. absurd (omega arith))
-
-sets-at : (xs : List ℕ) (i : ℕ) (vs : List ℕ) (n : ℕ) → n < length vs → i + length vs ≤ length xs → getD (sets xs i vs) (i + n) 0 ≡ getD vs n 0
-sets-at xs i [] n l r = absurd (omega arith)
-sets-at xs i (v ∷ vs) zero l r =
-    let q : i + 0 ≡ i = omega arith in
-    ap (λ (j : ℕ). getD (sets (set xs i v) (suc i) vs) j 0) q ∙ sets-before (set xs i v) (suc i) i vs (omega arith) ∙ getD-set-same xs i v 0 (omega arith)
-sets-at xs i (v ∷ vs) (suc n) l r =
-    let q : i + suc n ≡ suc i + n = omega arith in
-    ap (λ (j : ℕ). getD (sets (set xs i v) (suc i) vs) j 0) q ∙ sets-at (set xs i v) (suc i) vs n (omega arith) (omega (arith, length-set xs i v))
 
 -- a combination's notes: what was noted for the conditions, and the last counts after it
 module _ (notes noted counts : List ℕ) (c : ℕ) (long : length noted ≡ 48) (eight : length counts ≡ 8) (room : c * 56 + 56 ≤ length notes) where

@@ -34,7 +34,7 @@ use Rattle.entries.specs.Logs.{block, numbered, plan-of}
 use Rattle.resume.specs.declared.Source.{Source}
 use Rattle.resume.specs.Resume.{no-value, arrival, cut, ends-below, Sourced, counts-from, notes-from, counts-at, Resumed, begins, goes-on}
 use Rattle.courses.specs.Courses.{log-of, Ready, Earlier, Kept, Taken-over, One}
-use Rattle.resume.proofs.Blocks.{block-at}
+use Rattle.entries.proofs.Links.{block-at}
 use Rattle.resume.proofs.Sources.{arrival-never, arrival-at, width, from-less, from-within, elsewhere}
 use Rattle.courses.proofs.Resuming.{by-bound, resumes-until, resumes-never}
 use Rattle.courses.proofs.Single.{ready-first, Course, passes-few, passes-late, course-of, stored-of}

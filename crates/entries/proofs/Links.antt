@@ -3,37 +3,36 @@
 -- Assumes nothing.
 use mathlib.Core.Path.{_≡_, refl, sym, ap, _∙_, subst, subst₂}
 use mathlib.Core.Logic.{_⊎_, inl, inr}
-use mathlib.Core.Bool.{Bool, true, false, not, _&&_, _||_}
+use mathlib.Core.Bool.{Bool, true, false}
 use mathlib.Core.List.{List, [], _∷_, _++_, map, List·Memᴰ as In, List·Memᴰ·head as here}
 use Prim.Native.Nat.{ℕ, zero, suc, _+_, _-_, _*_, _^_, _≤_, _<_, max}
 use native.Mathlib.Omega.{arith}
 use lib.Bits.{bitAnd, and-le-l}
-use lib.Dec.{eqb, leb, ltb}
+use lib.Dec.{eqb, ltb}
 use lib.ListN.{length, getD, take}
 use lib.Seq.{getD-take, getD-drop}
-use borrow.Author.Tests.{eqb-true, eqb-false, ne-eqb, le-leb, lt-leb, leb-true, leb-false, ltb-true, ltb-false}
-use Rattle.lists.specs.Lists.{if_then_else_, any, keep, each, below}
+use borrow.Author.Tests.{eqb-true, eqb-false, ltb-true, ltb-false}
+use Rattle.lists.specs.Lists.{each, below}
 use Rattle.lists.specs.Ordered.{put, put-all}
-use Rattle.lists.proofs.Tests.{two, or-false}
+use Rattle.lists.proofs.Tests.{two}
 use Rattle.lists.proofs.Members.{in-getD, in-each, in-below, keep-in}
 use Rattle.lists.proofs.Keep.{each-same, map-each}
 use Rattle.lists.proofs.Order.{in-put-all}
 use Rattle.lists.proofs.Places.{list-below}
 use Rattle.model.specs.Plan.{Lines}
 use Rattle.model.specs.Activity.{combinations}
-use Rattle.model.specs.Bus.{rows, condition-row, sender, row-node, row-bytes, slot-of}
+use Rattle.model.specs.Bus.{rows}
 use Rattle.model.specs.Log.{Placed, Log, of-row, full-ticks, span, over, known}
 use Rattle.model.specs.Planning.{bound, planned}
 use Rattle.model.specs.Refusals.{nothing, plan-refusal}
 use Rattle.model.specs.Table.{Entry, known-bits, value-bits, entry-of, Planned, plans, made-entries, row-entries, key, one-of-two, result, entry-words}
 use Rattle.laws.proofs.Combinations.{combination-length}
 use Rattle.laws.proofs.Bound.{bound-small}
-use Rattle.laws.proofs.Good.{Good, good}
+use Rattle.laws.proofs.Good.{good}
+use Rattle.laws.proofs.OwnTable.{item-bytes, slot-bytes}
 use Rattle.laws.proofs.Progress.{over-by-bound}
-use Rattle.laws.proofs.Rows.{Kind, a-process, an-edge, a-condition, kind, sender-in, edge-bytes, condition-bytes}
 use Rattle.laws.proofs.Rules.{Kept}
 use Rattle.laws.proofs.Safety.{planning-keeps}
-use Rattle.laws.proofs.Slots.{slot-in}
 use Rattle.mask.proofs.Known.{values-built}
 use Rattle.mask.proofs.Numbered.{combinations-count, combination-number}
 use Rattle.readiness.specs.Reading.{known-by}
@@ -50,7 +49,8 @@ use Rattle.entries.proofs.Small.{numbers-join}
 use Rattle.entries.proofs.Writing.{table-length}
 use Rattle.entries.proofs.Keys.{entries-put, put-again, entry-made, number-of-entry, number-back}
 
-block-at : (xs : List ℕ) (c r : ℕ) → r < 198 → getD (block xs c) r 0 ≡ getD xs (c * 198 + r) 0
+-- what stands in combination c's part of an array
+pub block-at : (xs : List ℕ) (c r : ℕ) → r < 198 → getD (block xs c) r 0 ≡ getD xs (c * 198 + r) 0
 block-at xs c r l = getD-drop (c * 198) (take (c * 198 + 198) xs) r 0 ∙ getD-take (c * 198 + 198) xs (c * 198 + r) 0 (omega arith)
 
 put-one : (x : ℕ) (ys : List ℕ) → put-all (multiple 1) max (x ∷ []) ys ≡ put (multiple 1) max x ys
@@ -82,19 +82,6 @@ words-each f (r ∷ rs) =
 words-five : (es : List Entry) → length (entry-words es) ≡ 5 * length es
 words-five [] = refl
 words-five (e ∷ es) = let r = words-five es in omega arith
-
--- an item has at least one byte, in a slot of at most 64
-item-bytes : (p : Lines) → Good p → (r : ℕ) → length (p .processes) ≤ r → r < rows p → 1 ≤ row-bytes p r
-item-bytes p g r u l = at r (kind p r l) u
-  where
-    at : (r : ℕ) → Kind p r → length (p .processes) ≤ r → 1 ≤ row-bytes p r
-    at r (a-process i l) u = absurd (omega arith)
-    at r (an-edge e l) u = omega (arith, edge-bytes p e l, g .edge-one e l)
-    at r (a-condition k l) u = omega (arith, condition-bytes p k)
-
-slot-bytes : (p : Lines) → Good p → (r : ℕ) → r < rows p → slot-of p (row-node p r) .bytes ≤ 64
-unfolding row-node
-slot-bytes p g r l = g .slot-most _ (slot-in p g (sender p r) (sender-in p g r l))
 
 module _ (p : Lines) (passes : plan-refusal p ≡ nothing) (comes place since lasting : List ℕ) (L : Logs p comes place since lasting) where
   abbrev tell : ℕ

@@ -114,7 +114,7 @@ met-known (suc n) k v (old {y = y} {h = h} {h′ = h′} m) u e =
     met-close n k v y h (s .0) (met-known n (k / 2) (v / 2) m (within-open n k y h u .1) (s .1))
 
 -- A column that knows none but the first n conditions is met by some values of these.
-none-known : (m v : ℕ) → bits-met m 0 v 0 0 ≡ true
+pub none-known : (m v : ℕ) → bits-met m 0 v 0 0 ≡ true
 unfolding bits-met
 none-known zero v = refl
 none-known (suc m) v = none-known m (v / 2)

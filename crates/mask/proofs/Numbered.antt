@@ -41,7 +41,7 @@ more-at false (c ∷ cs) (suc j) l =
     ap (λ (x : ℕ). getD (each more (c ∷ cs)) x []) e ∙ more-at false cs j (omega arith)
 
 -- a mask of the numbers from suc a on
-mask-shift : (f : ℕ → Bool) (a n : ℕ) → mask-from f (suc a) n ≡ mask-from (λ k. f (suc k)) a n
+pub mask-shift : (f : ℕ → Bool) (a n : ℕ) → mask-from f (suc a) n ≡ mask-from (λ k. f (suc k)) a n
 mask-shift f a zero = refl
 mask-shift f a (suc n) = ap (under (f (suc a))) (mask-shift f (suc a) n)
 

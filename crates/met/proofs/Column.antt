@@ -21,10 +21,11 @@ use Rattle.model.specs.Bus.{rows}
 use Rattle.model.specs.Table.{Entry, known-bits, value-bits, bit-met, bits-met, bits-within, column-met}
 use Rattle.model.specs.Checking.{ill-formed}
 use Rattle.laws.proofs.Good.{Good}
+use Rattle.laws.proofs.Columns.{none-known}
 use Rattle.laws.proofs.Combinations.{combination-length}
-use Rattle.mask.specs.Masks.{under, mask-from, number-of}
+use Rattle.mask.specs.Masks.{under, number-of}
 use Rattle.mask.proofs.Built.{under-low, under-rest}
-use Rattle.mask.proofs.Numbered.{combinations-count, combination-number}
+use Rattle.mask.proofs.Numbered.{mask-shift, combinations-count, combination-number}
 use Rattle.met.specs.Table.{met-in}
 
 -- what refusal 13 leaves of an entry
@@ -63,11 +64,6 @@ within-none (suc m) v w l =
     let q = leb-true (v % 2) 0 (b .0) in
     let r = within-none m (v / 2) (b .1) (omega (arith, pow-suc 2 m)) in
     omega arith
-
-met-none : (m v : ℕ) → bits-met m 0 v 0 0 ≡ true
-unfolding bits-met
-met-none zero v = refl
-met-none (suc m) v = met-none m (v / 2)
 
 -- a number by its lowest bit and the others
 halved : (v a d : ℕ) → v % 2 ≡ d → eqb (v / 2) a ≡ eqb v (a * 2 + d)
@@ -127,7 +123,7 @@ all-bits : (m : ℕ) (c : List Bool) (k v : ℕ) → length c ≤ m → k < 2 ^ 
 all-bits m [] k v s l u w =
     let z : k ≡ 0 = omega arith in
     let y : v ≡ 0 = within-none m v (rw z at w) u in
-    rw (z, y) (met-none m 0)
+    rw (z, y) (none-known m 0)
 all-bits zero (b ∷ c) k v s l u w = absurd (omega arith)
 all-bits (suc m) (b ∷ c) k v s l u w =
     let h : ℕ = known-bits (all-heard c) in
@@ -143,10 +139,6 @@ all-bits (suc m) (b ∷ c) k v s l u w =
     both-bits n = and-step (under b n) k ∙ (λ i. bitAnd (under-rest b n i) (k / 2) * 2 + min (under-low b n i) (k % 2))
 
 -- the values of a combination are its number
-mask-shift : (f : ℕ → Bool) (a n : ℕ) → mask-from f (suc a) n ≡ mask-from (λ k. f (suc k)) a n
-mask-shift f a zero = refl
-mask-shift f a (suc n) = ap (under (f (suc a))) (mask-shift f (suc a) n)
-
 values-number : (c : List Bool) → value-bits (all-heard c) ≡ number-of (length c) c
 values-number [] = refl
 values-number (b ∷ c) = ap (under b) (values-number c ∙ sym (mask-shift (λ k. getD (b ∷ c) k false) 0 (length c)))

@@ -4,13 +4,13 @@ use mathlib.Core.Path.{_≡_, refl, sym, ap, _∙_, subst}
 use mathlib.Core.Logic.{_⊎_, inl, inr}
 use mathlib.Core.Bool.{Bool, true, false, not, _&&_, _||_}
 use mathlib.Core.List.{List, [], _∷_}
-use Prim.Native.Nat.{ℕ, zero, suc, _+_, _<_, _≤_}
+use Prim.Native.Nat.{ℕ, suc, _+_, _<_}
 use native.Mathlib.Omega.{arith}
 use lib.Dec.{eqb, leb}
 use lib.ListN.{length, getD, set, replicate, length-set, length-replicate}
 use lib.Seq.{getD-set-same, getD-set-other}
 use borrow.Author.Tests.{eq-eqb, eqb-true, ne-eqb, leb-true, leb-false, le-leb, lt-leb}
-use Rattle.lists.specs.Lists.{if_then_else_, any, keep, null}
+use Rattle.lists.specs.Lists.{if_then_else_, any, null}
 use Rattle.lists.proofs.Tests.{two, clash, or-false, and-false, join}
 use Rattle.lists.proofs.Fill.{zeros-at}
 use Rattle.model.specs.Plan.{Lines}

@@ -16,7 +16,7 @@ use Rattle.lists.proofs.Sums.{greatest-in, greatest-le}
 use Rattle.model.specs.Plan.{Lines}
 use Rattle.model.specs.Log.{Placed, Log, full-ticks, over, known, process-end, delay}
 use Rattle.model.specs.Table.{known-bits}
-use Rattle.laws.proofs.Rows.{full-tick, process-span}
+use Rattle.laws.proofs.Rows.{process-span}
 use Rattle.mask.proofs.Built.{built-small, built-same}
 use Rattle.mask.proofs.Known.{known-built}
 use Rattle.readiness.specs.Reading.{within, came-by, placed-by, known-by, last-end-by}

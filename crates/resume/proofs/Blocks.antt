@@ -1,18 +1,15 @@
--- A combination's part of an array: what stands in it, and the part put together number by number.
+-- A combination's part of an array, put together number by number.
 -- Assumes nothing.
 use mathlib.Core.Path.{_≡_, sym, _∙_}
 use mathlib.Core.List.{List}
-use Prim.Native.Nat.{ℕ, _+_, _*_, _≤_, _<_}
+use Prim.Native.Nat.{ℕ, _+_, _*_, _≤_}
 use native.Mathlib.Omega.{arith}
-use lib.ListN.{length, getD, take}
-use lib.Seq.{length-slice, ext-getD, getD-take, getD-drop}
+use lib.ListN.{length, getD}
+use lib.Seq.{length-slice, ext-getD}
 use Rattle.lists.specs.Lists.{fill}
 use Rattle.lists.proofs.Fill.{fill-at, fill-length}
 use Rattle.entries.specs.Logs.{block}
-
--- what stands in combination c's part, and the part put together number by number
-pub block-at : (xs : List ℕ) (c r : ℕ) → r < 198 → getD (block xs c) r 0 ≡ getD xs (c * 198 + r) 0
-block-at xs c r l = getD-drop (c * 198) (take (c * 198 + 198) xs) r 0 ∙ getD-take (c * 198 + 198) xs (c * 198 + r) 0 (omega arith)
+use Rattle.entries.proofs.Links.{block-at}
 
 pub block-filled : (xs : List ℕ) (c : ℕ) → c * 198 + 198 ≤ length xs → fill 198 (λ r. getD xs (c * 198 + r) 0) 198 ≡ block xs c
 block-filled xs c l =

@@ -12,10 +12,9 @@ use lib.ListN.{length, getD}
 use lib.Pow.{pow-mono}
 use borrow.Author.Tests.{leb-true, le-leb, ltb-true, ltb-false, lt-ltb, le-ltb, not-true}
 use Rattle.lists.specs.Lists.{any, keep}
-use Rattle.lists.proofs.Tests.{two, both, join, same-test, is-not}
+use Rattle.lists.proofs.Tests.{both, join, same-test, is-not}
 use Rattle.lists.proofs.Members.{any-in, in-any, in-keep, keep-in}
-use Rattle.model.specs.Plan.{Lines, on, process, unit}
-use Rattle.model.specs.Activity.{is}
+use Rattle.model.specs.Plan.{Lines, process, unit}
 use Rattle.model.specs.Bus.{first-beginning, begins, rows, is-process, sender, row-node}
 use Rattle.model.specs.Log.{Placed, Log, full-ticks, span, over, known}
 use Rattle.model.specs.Refusals.{nothing, plan-refusal}

@@ -10,10 +10,9 @@ use lib.Dec.{eqb, leb, ltb}
 use lib.ListN.{length, getD}
 use borrow.Author.Tests.{eq-eqb, eqb-true, ltb-true, ltb-false, lt-ltb, le-ltb, not-true}
 use Rattle.lists.specs.Lists.{any, keep, upfrom}
-use Rattle.lists.proofs.Tests.{two, both, same-test, is-not}
+use Rattle.lists.proofs.Tests.{both, same-test, is-not}
 use Rattle.lists.proofs.Members.{any-or, in-keep, keep-in}
 use Rattle.model.specs.Plan.{Lines}
-use Rattle.model.specs.Activity.{is}
 use Rattle.model.specs.Bus.{slot-of, rows, is-process, sender, row-node, row-bytes}
 use Rattle.model.specs.Log.{Placed, Log, full-ticks, span, over}
 use Rattle.model.specs.Refusals.{nothing, plan-refusal}

@@ -1,23 +1,16 @@
 -- `combination::try_all` meets its contract: the least and the greatest so far, with what is left, give the whole.
 -- Assumes nothing.
-use mathlib.Core.Path.{_≡_, refl, sym, ap, _∙_}
+use mathlib.Core.Path.{refl, sym, ap, _∙_}
 use mathlib.Core.Bool.{true}
-use mathlib.Core.List.{List, map}
-use Prim.Native.Nat.{ℕ, _≤_, _<_, _-_, max, min}
+use Prim.Native.Nat.{_≤_, _<_, _-_, max, min}
 use native.Mathlib.Omega.{arith}
 use borrow.Author.Needs.{needs}
-use Rattle.lists.specs.Lists.{below, greatest}
-use Rattle.lists.proofs.Keep.{keep-all}
-use Rattle.lists.proofs.Greatest.{Most, most-start, most-taken, most-end}
+use Rattle.lists.proofs.Greatest.{Most, most-start, most-taken, most-whole}
 use Rattle.combination.specs.declared.Found.{Found}
 use Rattle.combination.specs.Combination.{found-by, found-all}
 use Rattle.combination.proofs.Least.{Fewest, fewest-start, fewest-next, fewest-end}
 use Rattle.combination.proofs.try_all.Statement.{statement}
 use Rattle.combination.proofs.try_all.Tie as tie
-
--- the greatest of all once nothing is left
-whole : (f : ℕ → ℕ) (n i most : ℕ) → n ≤ i → Most f (λ k. true) n i most → greatest (map f (below n)) ≡ most
-whole f n i most l h = ap (λ (xs : List ℕ). greatest (map f xs)) (sym (keep-all (λ k. true) (below n) (λ k m. refl))) ∙ most-end f (λ k. true) n i most l h
 
 abbrev Inv-loop : tie.InvT-loop
 Inv-loop b table combinations first₀ delay₀ c₀ first delay c =
@@ -80,7 +73,7 @@ returns c =
     let v : n ≤ l .loop .c = omega (arith, c .loop-test .left) in
     λ i. record {
       first = fewest-end (λ k. found-by (a .b) (a .table .now) k .first) n (l .loop .c) (l .loop .first) v (h .0) (h .1) i;
-      delay = sym (whole (λ k. found-by (a .b) (a .table .now) k .delay) n (l .loop .c) (l .loop .delay) v (h .2)) i;
+      delay = sym (most-whole (λ k. found-by (a .b) (a .table .now) k .delay) n (l .loop .c) (l .loop .delay) v (h .2)) i;
     }
 
 pub try-all-spec : {M : Type 1} → statement M

@@ -1,22 +1,15 @@
 -- `readiness::last_end` meets its contract: the greatest so far and what is left give the whole.
 -- Assumes nothing.
-use mathlib.Core.Path.{_≡_, refl, sym, ap, _∙_}
+use mathlib.Core.Path.{refl}
 use mathlib.Core.Bool.{true}
-use mathlib.Core.List.{List, map}
-use Prim.Native.Nat.{ℕ, _-_, _≤_}
+use Prim.Native.Nat.{_-_}
 use native.Mathlib.Omega.{arith}
 use lib.ListN.{getD}
-use Rattle.lists.specs.Lists.{below, greatest}
-use Rattle.lists.proofs.Keep.{keep-all}
-use Rattle.lists.proofs.Greatest.{Most, most-start, most-taken, most-end}
+use Rattle.lists.proofs.Greatest.{Most, most-start, most-taken, most-whole}
 use Rattle.readiness.specs.Reading.{last-end-by}
 use Rattle.readiness.proofs.last_end.Statement.{statement}
 use borrow.Author.Needs.{needs}
 use Rattle.readiness.proofs.last_end.Tie as tie
-
--- the greatest of all once nothing is left
-whole : (f : ℕ → ℕ) (n i most : ℕ) → n ≤ i → Most f (λ k. true) n i most → greatest (map f (below n)) ≡ most
-whole f n i most l h = ap (λ (xs : List ℕ). greatest (map f xs)) (sym (keep-all (λ k. true) (below n) (λ k m. refl))) ∙ most-end f (λ k. true) n i most l h
 
 abbrev Inv-loop : tie.InvT-loop
 Inv-loop rows processes most₀ i₀ most i = Most (λ i. getD rows i 0) (λ k. true) processes i most
@@ -54,7 +47,7 @@ unfolding last-end-by
 returns c =
     let l = c .before .before in
     let a = l .before .before .args in
-    let q = whole (λ i. getD (a .rows .now) i 0) (a .processes) (l .loop .i) (l .loop .most) (c .before .loop-test .left) (l .loop .inv) in
+    let q = most-whole (λ i. getD (a .rows .now) i 0) (a .processes) (l .loop .i) (l .loop .most) (c .before .loop-test .left) (l .loop .inv) in
     omega arith
 
 sub-result : tie.Need-sub-result Inv-loop μ-loop
@@ -65,7 +58,7 @@ unfolding last-end-by
 returns-2 c =
     let l = c .before .before in
     let a = l .before .before .args in
-    let q = whole (λ i. getD (a .rows .now) i 0) (a .processes) (l .loop .i) (l .loop .most) (c .before .loop-test .left) (l .loop .inv) in
+    let q = most-whole (λ i. getD (a .rows .now) i 0) (a .processes) (l .loop .i) (l .loop .most) (c .before .loop-test .left) (l .loop .inv) in
     omega arith
 
 pub last-end-spec : {M : Type 1} → statement M

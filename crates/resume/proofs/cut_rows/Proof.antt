@@ -8,7 +8,7 @@ use Rattle.lists.specs.Lists.{fill}
 use Rattle.lists.proofs.Fill.{fill-next}
 use Rattle.entries.specs.Logs.{block}
 use Rattle.resume.specs.Resume.{cut-one, cut-at, cut}
-use Rattle.resume.proofs.Blocks.{block-at}
+use Rattle.entries.proofs.Links.{block-at}
 use Rattle.resume.proofs.cut_rows.Statement.{statement}
 use borrow.Author.Needs.{needs}
 use Rattle.resume.proofs.cut_rows.Tie as tie
