@@ -1,39 +1,37 @@
 -- What one event does: where the arrays hold planning before a tick, the next event has them hold planning before its own tick.
 -- Assumes nothing.
-use Prim.Native.Nat.{ℕ, zero, suc, _+_, _-_, _*_, _≤_, _<_}
+use Prim.Native.Nat.{ℕ, suc, _+_, _-_, _*_, _≤_, _<_}
 use mathlib.Core.Path.{_≡_, refl, sym, ap, _∙_, subst}
 use mathlib.Core.Logic.{_⊎_, inl, inr}
 use mathlib.Core.Bool.{Bool, true, false, not, _&&_}
 use mathlib.Core.List.{List, [], _∷_, _++_, map, append-nil, append-assoc, List·Memᴰ as In}
 use native.Mathlib.Omega.{arith}
-use lib.Dec.{eqb, leb, ltb}
+use lib.Dec.{eqb, ltb}
 use lib.ListN.{length, getD, set, length-set}
 use lib.Seq.{getD-set-same, getD-set-other}
 use borrow.Author.Tests.{eqb-true, eqb-false, eq-eqb, ne-eqb, ltb-true, ltb-false, le-leb, lt-leb, not-false}
 use Rattle.lists.specs.Lists.{if_then_else_, keep, each, null}
-use Rattle.lists.proofs.Tests.{two, clash, and-false}
-use Rattle.lists.proofs.Keep.{keep-append, map-upfrom}
+use Rattle.lists.proofs.Tests.{two, clash}
+use Rattle.lists.proofs.Keep.{map-upfrom}
 use Rattle.model.specs.Plan.{Lines, Slot, unit}
 use Rattle.model.specs.Activity.{Heard, heard, unheard, may-run}
 use Rattle.model.specs.Bus.{slot-ticks, slot-of, begins, beginning, first-beginning, condition-row}
-use Rattle.model.specs.Log.{Log, placed, full-ticks, over, known}
+use Rattle.model.specs.Log.{Log, placed, known}
 use Rattle.model.specs.Planning.{View, State, view, starts, pending, takes, passes-over, sends, step, before}
 use Rattle.model.specs.Refusals.{plan-refusal, nothing}
 use Rattle.laws.proofs.Good.{Good, good}
 use Rattle.laws.proofs.Rows.{done-by}
-use Rattle.laws.proofs.Slots.{slot-own, slot-ticks-one, beginning-begins, beginning-within, beginning-first, beginning-in, slots-apart}
+use Rattle.laws.proofs.Slots.{slot-own, slot-ticks-one, beginning-within, beginning-first, beginning-in, slots-apart}
 use Rattle.laws.proofs.Steps.{seen, log-at, view-at}
 use Rattle.laws.proofs.QuietTicks.{idle-starts, stays}
 use Rattle.laws.proofs.History.{over-then}
-use Rattle.laws.proofs.Events.{none-begins, one-begins, pending-same, takes-same, passes-same}
+use Rattle.laws.proofs.Events.{none-begins, one-begins, takes-same, passes-same}
 use Rattle.readiness.specs.Reading.{within, came-by, placed-by}
-use Rattle.readiness.specs.Holding.{Holds, Held, Logged, Runs}
+use Rattle.readiness.specs.Holding.{Holds, Held, Runs}
 use Rattle.readiness.proofs.Held.{held-logged}
-use Rattle.readiness.proofs.Links.{view-link}
 use Rattle.readiness.proofs.Running.{may-run-link}
 use Rattle.timetable.specs.Bus.{beginning-at}
 use Rattle.starting.specs.Starting.{Ends, starts-by}
-use Rattle.starting.specs.Busy.{Busy}
 use Rattle.starting.proofs.Ends.{busy-later, busy-rows}
 use Rattle.starting.proofs.Links.{After, starts-link}
 use Rattle.packing.specs.Packing.{Load, send-by, told-by, pending-by}
@@ -41,8 +39,9 @@ use Rattle.packing.specs.Items.{Items}
 use Rattle.packing.proofs.Links.{pending-link, send-held, send-short, send-either, send-untold, send-processes}
 use Rattle.board.specs.declared.Board.{Board}
 use Rattle.board.specs.Board.{Boarded}
-use Rattle.course.specs.Course.{no-event, last-event, Moment, Bus, bus, heard-by, begun-by, begins-by, slot-at-by, filled, fill-by, serve-by, come-by, next-slot, event-by, pending-in, hears, begins-with, serves, waiting, moves, next, notes-below, note-by, notes}
-use Rattle.course.proofs.Ahead.{come-after, come-flight, come-busy, event-come, event-slot, event-after, First, found, missing, first-below}
+use Rattle.serving.specs.Serving.{Bus, bus, filled, fill-by, pending-in}
+use Rattle.event.specs.Course.{last-event, Moment, heard-by, begun-by, begins-by, slot-at-by, serve-by, come-by, next-slot, event-by, hears, begins-with, serves, waiting, moves, next, notes-below, note-by, notes}
+use Rattle.event.proofs.Ahead.{come-after, come-flight, come-busy, event-come, event-slot, event-after, First, found, missing, first-below}
 use Rattle.course.proofs.Noting.{notes-long, notes-at}
 use Rattle.course.proofs.Standing.{Slot-end, past, ahead, slot-end-later, At}
 

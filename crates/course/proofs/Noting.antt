@@ -1,35 +1,18 @@
 -- What is noted as values become known: for each condition whose value becomes known at the clock the counts, for the others what was noted before.
 -- Assumes nothing.
 use Prim.Native.Nat.{ℕ, zero, suc, _+_, _*_, _≤_, _<_}
-use mathlib.Core.Path.{_≡_, refl, sym, ap, _∙_, subst}
+use mathlib.Core.Path.{_≡_, refl, sym, _∙_, subst}
 use mathlib.Core.Logic.{_⊎_, inl, inr}
 use mathlib.Core.Bool.{Bool, true, false}
-use mathlib.Core.List.{List, [], _∷_}
+use mathlib.Core.List.{List}
 use native.Mathlib.Omega.{arith}
 use lib.Dec.{eqb}
-use lib.ListN.{length, getD, set, length-set}
-use lib.Seq.{sets, length-sets, getD-set-same, getD-set-other}
+use lib.ListN.{length, getD}
+use lib.Seq.{sets, length-sets}
 use Rattle.lists.specs.Lists.{if_then_else_}
 use Rattle.lists.proofs.Tests.{below-suc}
-use Rattle.course.specs.Course.{notes-below, note-by}
-
--- numbers stored one after another: before the first place everything is as it was, and then they stand there
-sets-before : (xs : List ℕ) (i j : ℕ) (vs : List ℕ) → j < i → getD (sets xs i vs) j 0 ≡ getD xs j 0
-sets-before xs i j [] l = refl
-sets-before xs i j (v ∷ vs) l = sets-before (set xs i v) (suc i) j vs (omega arith) ∙ getD-set-other xs i j v 0 (λ q. absurd (omega arith))
-
-sets-after : (xs : List ℕ) (i j : ℕ) (vs : List ℕ) → i + length vs ≤ j → getD (sets xs i vs) j 0 ≡ getD xs j 0
-sets-after xs i j [] l = refl
-sets-after xs i j (v ∷ vs) l = sets-after (set xs i v) (suc i) j vs (omega arith) ∙ getD-set-other xs i j v 0 (λ q. absurd (omega arith))
-
-sets-at : (xs : List ℕ) (i : ℕ) (vs : List ℕ) (n : ℕ) → n < length vs → i + length vs ≤ length xs → getD (sets xs i vs) (i + n) 0 ≡ getD vs n 0
-sets-at xs i [] n l r = absurd (omega arith)
-sets-at xs i (v ∷ vs) zero l r =
-    let q : i + 0 ≡ i = omega arith in
-    ap (λ (j : ℕ). getD (sets (set xs i v) (suc i) vs) j 0) q ∙ sets-before (set xs i v) (suc i) i vs (omega arith) ∙ getD-set-same xs i v 0 (omega arith)
-sets-at xs i (v ∷ vs) (suc n) l r =
-    let q : i + suc n ≡ suc i + n = omega arith in
-    ap (λ (j : ℕ). getD (sets (set xs i v) (suc i) vs) j 0) q ∙ sets-at (set xs i v) (suc i) vs n (omega arith) (omega (arith, length-set xs i v))
+use Rattle.lists.proofs.Stores.{sets-before, sets-after, sets-at}
+use Rattle.event.specs.Course.{notes-below}
 
 module _ (comes : List ℕ) (u tell : ℕ) (passed noted : List ℕ) (eight : length passed ≡ 8) (all : length noted ≡ 48) where
   pub notes-long : (c : ℕ) → length (notes-below comes u tell passed c noted) ≡ 48

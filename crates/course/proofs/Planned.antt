@@ -1,23 +1,22 @@
 -- A run of events, from any moment at which the arrays hold planning before a tick, leads to the plan of the combination: its log, its delay and its
 -- pass-overs.
 -- Assumes nothing.
-use Prim.Native.Nat.{ℕ, zero, suc, _+_, _-_, _*_, _≤_, _<_}
+use Prim.Native.Nat.{ℕ, suc, _+_, _-_, _*_, _≤_, _<_}
 use mathlib.Core.Path.{_≡_, refl, sym, ap, _∙_, subst}
 use mathlib.Core.Logic.{_⊎_, inl, inr}
 use mathlib.Core.Bool.{Bool, true, false}
-use mathlib.Core.List.{List, [], _∷_, map, List·Memᴰ as In, List·Memᴰ·head as here, List·Memᴰ·tail as there, List·Memᴰ·not-nil as in-none}
+use mathlib.Core.List.{List, [], _∷_, List·Memᴰ as In, List·Memᴰ·head as here, List·Memᴰ·tail as there, List·Memᴰ·not-nil as in-none}
 use native.Mathlib.Omega.{arith}
-use lib.Dec.{eqb, leb, ltb}
+use lib.Dec.{eqb, leb}
 use lib.ListN.{length, getD, replicate, length-replicate}
-use borrow.Author.Tests.{eq-eqb, eqb-true, lt-ltb, ltb-true, leb-true, leb-false}
-use Rattle.lists.specs.Lists.{if_then_else_, keep, below, greatest}
+use borrow.Author.Tests.{eq-eqb, leb-true, leb-false}
+use Rattle.lists.specs.Lists.{keep}
 use Rattle.lists.proofs.Tests.{clash, two}
-use Rattle.lists.proofs.Members.{keep-in, in-keep, in-below, below-in}
+use Rattle.lists.proofs.Members.{keep-in}
 use Rattle.lists.proofs.Fill.{zeros-at}
-use Rattle.lists.proofs.Sums.{greatest-le, greatest-in}
-use Rattle.model.specs.Plan.{Lines, Slot, unit}
-use Rattle.model.specs.Bus.{is-process, condition-row}
-use Rattle.model.specs.Log.{Placed, Log, of-row, full-ticks, span, process-end, delay}
+use Rattle.model.specs.Plan.{Lines}
+use Rattle.model.specs.Bus.{condition-row}
+use Rattle.model.specs.Log.{Placed, Log}
 use Rattle.model.specs.Planning.{State, before, bound, planned}
 use Rattle.model.specs.Refusals.{plan-refusal, nothing}
 use Rattle.laws.proofs.Good.{Good, good}
@@ -30,7 +29,7 @@ use Rattle.starting.specs.Busy.{Busy}
 use Rattle.starting.proofs.Ends.{busy-none}
 use Rattle.board.specs.declared.Board.{Board}
 use Rattle.board.specs.Board.{Boarded}
-use Rattle.course.specs.Course.{last-event, Moment, next, Leads, over, on, from-clock}
+use Rattle.event.specs.Course.{last-event, Moment, next, Leads, over, on, from-clock}
 use Rattle.course.proofs.Standing.{Slot-end, past, At}
 use Rattle.course.proofs.Event.{at-next}
 
@@ -130,56 +129,3 @@ module _ (p : Lines) (passes : plan-refusal p ≡ nothing) (c : List Bool) (coun
         noting = λ k l z n w. a .noting k l z (omega (arith, over-by-bound-in (e .comes) (e .place) h (condition-row p k), bound-small p g, r .2, a .clock)) n w;
         noted-long = a .noted-long;
       }
-
-  module _ (comes place busy passed noted : List ℕ) (k : Plans comes place busy passed noted) where
-    abbrev log : Log
-    log = planned p c .log
-
-    -- where a process of the plan ends
-    ends-at : (x : Placed) → In x log → x .row < length (p .processes) → (at : ℕ) → Row p log (x .row) (getD comes (x .row) 0) at → getD comes (x .row) 0 ≡ suc (x .tick + getD (full-ticks p) (x .row) 0)
-    unfolding span
-    ends-at x m l at (absent n z) = absurd (in-none (subst (λ (y : Log). In x y) n (in-keep (λ y. eqb (y .row) (x .row)) m (eq-eqb (x .row) (x .row) refl))))
-    ends-at x m l at (stands t n z) =
-        let q : x ≡ record { row = x .row; tick = t; place = at } = one-in (subst (λ (y : Log). In x y) n (in-keep (λ y. eqb (y .row) (x .row)) m (eq-eqb (x .row) (x .row) refl))) in
-        z ∙ rw (lt-ltb (x .row) (length (p .processes)) l) (ap (λ (t : ℕ). suc (t + getD (full-ticks p) (x .row) 0)) (sym (ap (λ (y : Placed). y .tick) q)))
-
-    ends-of : (i : ℕ) → i < length (p .processes) → (at : ℕ) → Row p log i (getD comes i 0) at → getD comes i 0 - 1 ≤ delay p (full-ticks p) log
-    unfolding delay process-end span
-    ends-of i l at (absent n z) = omega (arith, z)
-    ends-of i l at (stands t n z) =
-        let m : In (record { row = i; tick = t; place = at }) log = keep-in (λ y. eqb (y .row) i) log (subst (λ (y : Log). In (record { row = i; tick = t; place = at }) y) (sym n) (here refl)) .0 in
-        let f = greatest-in (process-end p (full-ticks p)) log (record { row = i; tick = t; place = at }) m in
-        let q : getD comes i 0 ≡ suc (t + getD (full-ticks p) i 0) = z ∙ rw (lt-ltb i (length (p .processes)) l) in
-        let e : process-end p (full-ticks p) (record { row = i; tick = t; place = at }) ≡ t + getD (full-ticks p) i 0 = rw (lt-ltb i (length (p .processes)) l) in
-        omega (arith, q, e, f)
-
-    abbrev last : ℕ
-    last = greatest (map (λ n. getD busy n 0) (below (length (p .slots))))
-
-    -- the delay is the last end of a process
-    pub delay-planned : greatest (map (λ n. getD busy n 0) (below (length (p .slots)))) - 1 ≡ delay p (full-ticks p) (planned p c .log)
-    unfolding delay process-end unit
-    delay-planned = omega (arith, low, high)
-      where
-        node-end : (n : ℕ) → In n (below (length (p .slots))) → getD busy n 0 ≤ delay p (full-ticks p) log + 1
-        node-end n m = at (k .ends .1 .some n (below-in (length (p .slots)) m))
-          where
-            at : (getD busy n 0 ≡ 0) ⊎ ((i : ℕ) × (i < length (p .processes)) × (unit p i ≡ n) × (getD comes i 0 ≡ getD busy n 0)) → getD busy n 0 ≤ delay p (full-ticks p) log + 1
-            at (inl q) = omega (arith, q)
-            at (inr q) = omega (arith, q .3, ends-of (q .0) (q .1) (getD place (q .0) 0) (k .held .row (q .0)))
-
-        low : last ≤ delay p (full-ticks p) log + 1
-        low = greatest-le (λ n. getD busy n 0) (delay p (full-ticks p) log + 1) (below (length (p .slots))) node-end
-
-        start-end : (x : Placed) → In x log → (q : Bool) → is-process p (x .row) ≡ q → (if q then x .tick + getD (full-ticks p) (x .row) 0 else 0) ≤ last - 1
-        start-end x m false q = omega arith
-        start-end x m true q =
-            let l : x .row < length (p .processes) = ltb-true _ _ q in
-            let e = ends-at x m l (getD place (x .row) 0) (k .held .row (x .row)) in
-            let f = k .ends .1 .most (x .row) l in
-            let w : unit p (x .row) < length (p .slots) = g .node-in (x .row) l in
-            let y = greatest-in (λ n. getD busy n 0) (below (length (p .slots))) (unit p (x .row)) (in-below (length (p .slots)) (unit p (x .row)) w) in
-            omega (arith, e, f, y)
-
-        high : delay p (full-ticks p) log ≤ last - 1
-        high = greatest-le (process-end p (full-ticks p)) (last - 1) log (λ x m. start-end x m (is-process p (x .row)) refl)

@@ -2,7 +2,7 @@
 -- Assumes nothing.
 use Prim.Native.Nat.{ℕ, suc, _+_, _-_, _*_, _≤_, _<_}
 use mathlib.Core.Path.{_≡_}
-use mathlib.Core.Logic.{_⊎_, inl, inr}
+use mathlib.Core.Logic.{_⊎_}
 use mathlib.Core.Bool.{Bool, true, false}
 use mathlib.Core.List.{List, [], List·Memᴰ as In}
 use native.Mathlib.Omega.{arith}
@@ -18,7 +18,7 @@ use Rattle.laws.proofs.Steps.{log-at, view-at}
 use Rattle.readiness.specs.Reading.{came-by}
 use Rattle.readiness.specs.Holding.{Held, Runs}
 use Rattle.starting.specs.Busy.{Busy}
-use Rattle.course.specs.Course.{Moment}
+use Rattle.event.specs.Course.{Moment}
 
 -- a clock at which a slot ends that began before tick t, or one that is past
 pub data Slot-end (p : Lines) (t x : ℕ) : Type 0 where

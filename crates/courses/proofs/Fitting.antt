@@ -29,8 +29,8 @@ use Rattle.starting.proofs.Turns.{turn-member, turn-unit}
 use Rattle.board.specs.declared.Board.{Board}
 use Rattle.board.specs.Layout.{unmet-by}
 use Rattle.board.specs.Board.{Boarded}
-use Rattle.course.specs.Course.{begins-by, from-clock, Fits}
-use Rattle.course.specs.Kept.{Begins}
+use Rattle.event.specs.Course.{begins-by, from-clock, Fits}
+use Rattle.event.specs.Kept.{Begins}
 use Rattle.entries.specs.Logs.{numbered}
 use Rattle.courses.specs.Courses.{Ready}
 
@@ -183,6 +183,7 @@ module _ (p : Lines) (passes : plan-refusal p ≡ nothing) (b : Board) (o : Boar
         queue-own = queue-node;
         into-own = into-node;
         remote-most = o .remote-most;
+        bytes-one = λ e l. omega (arith, o .sizes-of e, g .edge-one e (remote-edge e l));
         remote-row = λ e l. omega (arith, tell-count, o .processes-count, remote-edge e l);
         cues-known = λ e. cue-when e (edge p e .when) refl;
         one-begins = one-node;

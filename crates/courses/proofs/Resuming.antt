@@ -29,7 +29,7 @@ use Rattle.laws.proofs.Bound.{bound-small, planning-ends}
 use Rattle.laws.proofs.Sharing.{plan-in, row-before, row-after, row-never, ends-last, slots-done, Shared, shared-until, shared-all}
 use Rattle.readiness.specs.Holding.{Row, absent, stands, Held}
 use Rattle.starting.specs.Busy.{Busy}
-use Rattle.course.specs.Course.{from-clock}
+use Rattle.event.specs.Course.{from-clock}
 use Rattle.course.proofs.Standing.{past, At}
 use Rattle.course.proofs.Planned.{from-at}
 use Rattle.resume.specs.Resume.{cut-at, cut, ends-below, no-value}

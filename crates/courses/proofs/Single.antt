@@ -24,7 +24,7 @@ use Rattle.readiness.proofs.Readings.{last-end-link}
 use Rattle.board.specs.declared.Board.{Board}
 use Rattle.board.specs.Layout.{unmet-by}
 use Rattle.board.specs.Board.{Boarded}
-use Rattle.course.specs.Course.{Moment, Ended, from-clock}
+use Rattle.event.specs.Course.{Moment, Ended, from-clock}
 use Rattle.course.proofs.Planned.{first-at, Plans, leads-planned}
 use Rattle.entries.specs.Logs.{numbered}
 use Rattle.courses.specs.Courses.{log-of, passes-by, passes-of, Ready, Kept, Stored}
@@ -110,10 +110,10 @@ module _ (p : Lines) (passes : plan-refusal p ≡ nothing) where
     -- where a run of events leads
     pub course-of : (c : ℕ) → c < 2 ^ length (p .conditions) → (unmet : List ℕ) → unmet ≡ unmet-by (b .kind) (b .condition) (b .edges) c →
         (start : ℕ) (ends rows places counts noted : List ℕ) → Ready p c start ends rows places counts noted →
-        (latest : ℕ) (rows-after places-after counts-after noted-after : List ℕ) →
-        Ended b unmet (from-clock start 0 ends rows places counts noted) latest rows-after places-after counts-after noted-after →
+        (rows-after places-after counts-after noted-after : List ℕ) →
+        Ended b unmet (from-clock start 0 ends rows places counts noted) rows-after places-after counts-after noted-after →
         Course p c rows-after places-after counts-after noted-after
-    course-of c l unmet q start ends rows places counts noted r latest rows-after places-after counts-after noted-after e =
+    course-of c l unmet q start ends rows places counts noted r rows-after places-after counts-after noted-after e =
         let h : Holds p (numbered p c) (b .from) (b .cue) unmet (b .remote) (b .several) (b .intofirst) (b .into) =
         subst (λ (xs : List ℕ). Holds p (numbered p c) (b .from) (b .cue) xs (b .remote) (b .several) (b .intofirst) (b .into)) (sym q) (o .holds c l) in
         let f : Moment = e .end in

@@ -28,7 +28,7 @@ use Rattle.readiness.specs.Holding.{Row, absent, stands, Held}
 use Rattle.board.specs.declared.Board.{Board}
 use Rattle.board.specs.Layout.{unmet-by}
 use Rattle.board.specs.Board.{Boarded}
-use Rattle.course.specs.Course.{Ended, from-clock}
+use Rattle.event.specs.Course.{Ended, from-clock}
 use Rattle.course.proofs.Standing.{At}
 use Rattle.entries.specs.Logs.{block, numbered, plan-of}
 use Rattle.resume.specs.declared.Source.{Source}
@@ -240,13 +240,13 @@ module _ (p : Lines) (passes : plan-refusal p ≡ nothing) (b : Board) (o : Boar
       at (goes-on t) =
           subst (λ (x : ℕ). Taken-over p c rows-after (b .span) x) (sym (t .until)) (next-taken p passes b o c l comes place notes e (t .source) (t .sourced) rows-after places-after h)
 
-  pub one-of : (unmet : List ℕ) → unmet ≡ unmet-by (b .kind) (b .condition) (b .edges) c → {answer : ℕ} {rows-after places-after counts-after noted-after : List ℕ} →
-      Ended b unmet (from-clock clock 0 ends rows places counts noted) answer rows-after places-after counts-after noted-after → {latest : ℕ} → latest ≡ last-end-by rows-after (b .processes) → (since passed : List ℕ) → length passed ≡ 8 →
+  pub one-of : (unmet : List ℕ) → unmet ≡ unmet-by (b .kind) (b .condition) (b .edges) c → {rows-after places-after counts-after noted-after : List ℕ} →
+      Ended b unmet (from-clock clock 0 ends rows places counts noted) rows-after places-after counts-after noted-after → {latest : ℕ} → latest ≡ last-end-by rows-after (b .processes) → (since passed : List ℕ) → length passed ≡ 8 →
       {comes-after place-after since-after notes-after passed-after : List ℕ} →
       Kept c clock (b .slots) rows-after places-after counts-after noted-after comes place since notes passed comes-after place-after since-after notes-after passed-after →
       One p (b .span) c latest comes place since notes passed comes-after place-after since-after notes-after passed-after
-  one-of unmet q {answer} {rows-after} {places-after} {counts-after} {noted-after} f {latest} d since passed long s =
+  one-of unmet q {rows-after} {places-after} {counts-after} {noted-after} f {latest} d since passed long s =
       let k : Course p c rows-after places-after counts-after noted-after =
-      course-of p passes b o c l unmet q clock ends rows places counts noted resumed-ready answer rows-after places-after counts-after noted-after f in
+      course-of p passes b o c l unmet q clock ends rows places counts noted resumed-ready rows-after places-after counts-after noted-after f in
       let x = stored-of p passes b o c latest rows-after places-after counts-after noted-after k d clock comes place since notes passed long s in
       record { stored = x; clock = clock; since-stored = s .since-stored; taken-over = resumed-taken (x .rows) (x .places) (x .held) }

@@ -16,7 +16,7 @@ use Rattle.model.specs.Table.{plans, passed-by, made-entries, result}
 use Rattle.readiness.specs.Holding.{Held}
 use Rattle.board.specs.declared.Board.{Board}
 use Rattle.board.specs.Board.{Boarded}
-use Rattle.course.specs.Course.{from-clock}
+use Rattle.event.specs.Course.{from-clock}
 use Rattle.course.proofs.Standing.{At}
 use Rattle.entries.specs.Logs.{block, numbered, plan-of}
 use Rattle.courses.specs.declared.Totals.{Totals}

@@ -100,8 +100,8 @@ module _ (processes : ℕ) (remote from cue unmet run several intofirst into : L
     abbrev stepped-at : ℕ → Ends → Type 0
     stepped-at = Stepped processes remote from cue unmet run several intofirst into u turnfirst turn ticks
 
-    module _ (slots looked : ℕ) (stirred busy comes : List ℕ) (low : (j : ℕ) → getD turn j 0 < 64)
-        (q : Quiet processes slots remote from cue unmet run several intofirst into turnfirst turn ticks u looked stirred busy comes) where
+    module _ (slots : ℕ) (stirred busy comes : List ℕ) (low : (j : ℕ) → getD turn j 0 < 64)
+        (q : Quiet processes slots remote from cue unmet run several intofirst into turnfirst turn ticks u stirred busy comes) where
       abbrev after : ℕ → Ends
       after n = starts-by processes remote from cue unmet run several intofirst into u turnfirst turn ticks n (record { busy = busy; comes = comes })
 
@@ -148,7 +148,7 @@ module _ (processes : ℕ) (remote from cue unmet run several intofirst into : L
       so-far (suc n) l = next n (omega arith) (after n) (so-far n (omega arith)) (step-at n (after n))
 
       -- after the nodes below n have started, node n has nothing to start where nothing is new for it
-      pub idle-then : (n : ℕ) → n < slots → getD (after n .busy) n 0 ≤ looked → getD stirred n 0 ≤ looked → idle-at (after n .comes) n
+      pub idle-then : (n : ℕ) → n < slots → getD (after n .busy) n 0 < u → (getD stirred n 0 ≡ u → ⊥) → idle-at (after n .comes) n
       idle-then n l b t j c d =
           let z = so-far n (omega arith) in
           idle-stays u u comes (after n .comes) (getD turn j 0)

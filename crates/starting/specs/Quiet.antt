@@ -1,5 +1,5 @@
--- What lets a free node be passed by at an event: nothing has changed for it since the nodes last looked for a start, at the clock `looked`.
--- `stirred`, by node, has the clock at which something for the node last changed other than the end of its own process.
+-- What lets a free node be passed by at an event: nothing changes for it at the clock.
+-- `stirred`, by node, has the clock at which something for the node last changes other than the end of its own process.
 -- Assumes nothing.
 use mathlib.Core.Path.{_≡_}
 use mathlib.Core.Bool.{false}
@@ -14,9 +14,9 @@ Idle processes remote from cue unmet run several intofirst into u turnfirst turn
     (j : ℕ) → getD turnfirst n 0 ≤ j → j < getD turnfirst (n + 1) 0 →
     can-start processes remote from cue unmet run several intofirst into u comes (getD turn j 0) ≡ false
 
-pub record Quiet (processes slots : ℕ) (remote from cue unmet run several intofirst into turnfirst turn ticks : List ℕ) (u looked : ℕ) (stirred busy comes : List ℕ) : Type 0 where
-  -- a node for which nothing is new since then has no process that can start
-  pub idle : (n : ℕ) → n < slots → getD busy n 0 ≤ looked → getD stirred n 0 ≤ looked →
+pub record Quiet (processes slots : ℕ) (remote from cue unmet run several intofirst into turnfirst turn ticks : List ℕ) (u : ℕ) (stirred busy comes : List ℕ) : Type 0 where
+  -- a node whose last process ended before the clock, and that is not stirred at it, has no process that can start
+  pub idle : (n : ℕ) → n < slots → getD busy n 0 < u → (getD stirred n 0 ≡ u → ⊥) →
       Idle processes remote from cue unmet run several intofirst into u turnfirst turn comes n
   -- what stands in the turn of a node are processes, and no process stands in the turns of two nodes
   pub members : (n j : ℕ) → n < slots → getD turnfirst n 0 ≤ j → j < getD turnfirst (n + 1) 0 → getD turn j 0 < processes

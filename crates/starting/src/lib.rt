@@ -139,17 +139,17 @@ fn start<'a>(
     end
 }
 
-// Whether something is new for a node since the clock `looked`: its last process ended after it, or it was stirred after it.
-fn has_news(looked: u32, last: u32, stir: u32) -> bool
-    ensures { λ r. ⌜ (r ≡ false → (last ≤ looked) × (stir ≤ looked)) ⌝ }
+// Whether something is new for a node at clock u: its last process ends at it, or the node is stirred at it.
+fn has_news(u: u32, last: u32, stir: u32) -> bool
+    ensures { λ r. ⌜ (r ≡ false → (last ≡ u → ⊥) × (stir ≡ u → ⊥)) ⌝ }
 {
-    if looked < last {
+    if last == u {
         return true;
     }
-    looked < stir
+    stir == u
 }
 
-// Node n starts, if it is free. It looks for a start only where something is new for it since the clock `looked`.
+// Node n starts, if it is free. It looks for a start only where something is new for it.
 fn start_node<'a>(
     processes: usize,
     remote: &'a [u32; 128],
@@ -164,20 +164,19 @@ fn start_node<'a>(
     turn: &'a [u32; 128],
     ticks: &'a [u32; 64],
     u: u32,
-    looked: u32,
     stirred: &'a [u32; 8],
     n: usize,
     busy: &mut [u32; 8],
     comes: &mut [u32; 198],
 )
-    requires { ⌜ (n < 8) × (processes ≤ 64) × ((k : ℕ) → getD (now intofirst) k 0 ≤ 128) × Within (now from) (now cue) (now into) × ((k : ℕ) → getD (now turnfirst) k 0 ≤ 128) × ((j : ℕ) → getD (now turn) j 0 < 64) × (u ≤ 1000000000) × ((i : ℕ) → getD (now ticks) i 0 ≤ 100000) × (getD (now busy) n 0 ≤ looked → getD (now stirred) n 0 ≤ looked → Idle processes (now remote) (now from) (now cue) (now unmet) (now run) (now several) (now intofirst) (now into) u (now turnfirst) (now turn) (now comes) n) ⌝ }
+    requires { ⌜ (n < 8) × (processes ≤ 64) × ((k : ℕ) → getD (now intofirst) k 0 ≤ 128) × Within (now from) (now cue) (now into) × ((k : ℕ) → getD (now turnfirst) k 0 ≤ 128) × ((j : ℕ) → getD (now turn) j 0 < 64) × (u ≤ 1000000000) × ((i : ℕ) → getD (now ticks) i 0 ≤ 100000) × (getD (now busy) n 0 < u → (getD (now stirred) n 0 ≡ u → ⊥) → Idle processes (now remote) (now from) (now cue) (now unmet) (now run) (now several) (now intofirst) (now into) u (now turnfirst) (now turn) (now comes) n) ⌝ }
     ensures ends { λ _. ⌜ now (busy .exit) ≡ start-by processes (now (remote .entry)) (now (from .entry)) (now (cue .entry)) (now (unmet .entry)) (now (run .entry)) (now (several .entry)) (now (intofirst .entry)) (now (into .entry)) u (now (turnfirst .entry)) (now (turn .entry)) (now (ticks .entry)) n (record { busy = now (busy .entry); comes = now (comes .entry) }) .busy ⌝ }
     ensures rows { λ _. ⌜ now (comes .exit) ≡ start-by processes (now (remote .entry)) (now (from .entry)) (now (cue .entry)) (now (unmet .entry)) (now (run .entry)) (now (several .entry)) (now (intofirst .entry)) (now (into .entry)) u (now (turnfirst .entry)) (now (turn .entry)) (now (ticks .entry)) n (record { busy = now (busy .entry); comes = now (comes .entry) }) .comes ⌝ }
 {
     let last = busy[n];
     if last <= u {
         let stir = stirred[n];
-        if has_news(looked, last, stir) {
+        if has_news(u, last, stir) {
             let a = turnfirst[n] as usize;
             let b = turnfirst[n + 1] as usize;
             let end = start(
@@ -204,7 +203,7 @@ fn start_node<'a>(
 }
 
 // Each free node starts its first ready process in turn that has not started: `busy` has then the end of each node's last process,
-// and `comes` the end of each process. A node whose last process ended by the clock `looked`, and that was not stirred after it, has
+// and `comes` the end of each process. A node whose last process does not end at this clock, and that is not stirred at it, has
 // nothing new and is passed by.
 pub fn starts<'a>(
     processes: usize,
@@ -221,12 +220,11 @@ pub fn starts<'a>(
     turn: &'a [u32; 128],
     ticks: &'a [u32; 64],
     u: u32,
-    looked: u32,
     stirred: &'a [u32; 8],
     busy: &mut [u32; 8],
     comes: &mut [u32; 198],
 )
-    requires { ⌜ (slots ≤ 8) × (processes ≤ 64) × ((k : ℕ) → getD (now intofirst) k 0 ≤ 128) × Within (now from) (now cue) (now into) × ((k : ℕ) → getD (now turnfirst) k 0 ≤ 128) × ((j : ℕ) → getD (now turn) j 0 < 64) × (u ≤ 1000000000) × ((i : ℕ) → getD (now ticks) i 0 ≤ 100000) × Quiet processes slots (now remote) (now from) (now cue) (now unmet) (now run) (now several) (now intofirst) (now into) (now turnfirst) (now turn) (now ticks) u looked (now stirred) (now busy) (now comes) ⌝ }
+    requires { ⌜ (slots ≤ 8) × (processes ≤ 64) × ((k : ℕ) → getD (now intofirst) k 0 ≤ 128) × Within (now from) (now cue) (now into) × ((k : ℕ) → getD (now turnfirst) k 0 ≤ 128) × ((j : ℕ) → getD (now turn) j 0 < 64) × (u ≤ 1000000000) × ((i : ℕ) → getD (now ticks) i 0 ≤ 100000) × Quiet processes slots (now remote) (now from) (now cue) (now unmet) (now run) (now several) (now intofirst) (now into) (now turnfirst) (now turn) (now ticks) u (now stirred) (now busy) (now comes) ⌝ }
     ensures ends { λ _. ⌜ now (busy .exit) ≡ starts-by processes (now (remote .entry)) (now (from .entry)) (now (cue .entry)) (now (unmet .entry)) (now (run .entry)) (now (several .entry)) (now (intofirst .entry)) (now (into .entry)) u (now (turnfirst .entry)) (now (turn .entry)) (now (ticks .entry)) slots (record { busy = now (busy .entry); comes = now (comes .entry) }) .busy ⌝ }
     ensures rows { λ _. ⌜ now (comes .exit) ≡ starts-by processes (now (remote .entry)) (now (from .entry)) (now (cue .entry)) (now (unmet .entry)) (now (run .entry)) (now (several .entry)) (now (intofirst .entry)) (now (into .entry)) u (now (turnfirst .entry)) (now (turn .entry)) (now (ticks .entry)) slots (record { busy = now (busy .entry); comes = now (comes .entry) }) .comes ⌝ }
 {
@@ -246,7 +244,6 @@ pub fn starts<'a>(
             turn,
             ticks,
             u,
-            looked,
             stirred,
             n,
             busy,

@@ -8,6 +8,7 @@ use lib.ListN.{length}
 use Rattle.model.specs.Plan.{Lines}
 use Rattle.board.specs.declared.Board.{Board}
 use Rattle.board.specs.Board.{Boarded}
+use Rattle.event.specs.Course.{from-clock}
 use Rattle.course.proofs.Loops.{fits-read, begins-read, ended-read}
 use Rattle.courses.proofs.Fitting.{fits, begins-ready}
 use Rattle.courses.proofs.Single.{ready-start, ready-long, passes-few, course-of}
@@ -95,6 +96,7 @@ unmet-requires : tie.Need-unmet-requires Inv-loop μ-loop
 unmet-requires c κs = let o = begun (c .before .before .before .before) .before .before .before .before .before .pre .0 .boarded in (o .few-edges, o .condition-small)
 
 course-requires : tie.Need-course-requires Inv-loop μ-loop
+unfolding from-clock
 course-requires c κs =
     let u = lacking c in
     let r = taken u in
@@ -108,6 +110,8 @@ course-requires c κs =
       ready-start _ _ _ _ _ _ _ _ w,
       resumed-few (d .plan) (d .passes) (board l) (d .boarded) (l .loop .c) (among i (d .plan) (d .boarded)) (l .loop .comes) (l .loop .place) (l .loop .notes) e _ _ _ _ _ _ (r .resume .ensures),
       ready-long _ _ _ _ _ _ _ _ w,
+      omega arith,
+      w .at-tick .held .comes-long,
     )
 
 store-requires : tie.Need-store-requires Inv-loop μ-loop
@@ -122,7 +126,7 @@ store-requires c κs =
     let o = d .boarded in
     let e = l .loop .inv .1 .first p (d .passes) o .earlier in
     let w = resumed-ready p (d .passes) (board l) o (l .loop .c) (among i p o) (l .loop .comes) (l .loop .place) (l .loop .notes) e _ _ _ _ _ _ (r .resume .ensures) in
-    let k = course-of p (d .passes) (board l) o (l .loop .c) (among i p o) (u .unmet .result) (u .unmet .ensures) _ _ _ _ _ _ w _ _ _ _ _ (ended-read (board l) (u .unmet .result) _ _ _ _ _ _ (x .course .ensures)) in (
+    let k = course-of p (d .passes) (board l) o (l .loop .c) (among i p o) (u .unmet .result) (u .unmet .ensures) _ _ _ _ _ _ w _ _ _ _ (ended-read (board l) (u .unmet .result) _ _ _ _ _ (x .course .ensures)) in (
       few i,
       o .few-slots,
       k .held .comes-long,
@@ -151,7 +155,7 @@ slice-aggregate-last-end c =
     let o = d .boarded in
     let e = l .loop .inv .1 .first p (d .passes) o .earlier in
     let w = resumed-ready p (d .passes) (board l) o (l .loop .c) (among i p o) (l .loop .comes) (l .loop .place) (l .loop .notes) e _ _ _ _ _ _ (r .resume .ensures) in
-    let k = course-of p (d .passes) (board l) o (l .loop .c) (among i p o) (u .unmet .result) (u .unmet .ensures) _ _ _ _ _ _ w _ _ _ _ _ (ended-read (board l) (u .unmet .result) _ _ _ _ _ _ (x .course .ensures)) in
+    let k = course-of p (d .passes) (board l) o (l .loop .c) (among i p o) (u .unmet .result) (u .unmet .ensures) _ _ _ _ _ _ w _ _ _ _ (ended-read (board l) (u .unmet .result) _ _ _ _ _ (x .course .ensures)) in
     sym (k .held .comes-long)
 
 last-end-requires : tie.Need-last-end-requires Inv-loop μ-loop
@@ -181,7 +185,7 @@ loop-again c =
           (few i) (within i) (l .loop .inv .1)
           (λ p f o.
           one-of p f (board l) o (l .loop .c) (among i p o) (l .loop .comes) (l .loop .place) (l .loop .notes) (l .loop .inv .1 .first p f o .earlier) _ _ _ _ _ _ (r .resume .ensures)
-          (u .unmet .result) (u .unmet .ensures) (ended-read (board l) (u .unmet .result) _ _ _ _ _ _ (x .course .ensures)) (c .before .last-end .ensures) (l .loop .since) (l .loop .passed) (l .loop .inv .1 .passed-long) (c .before .before .before .store .ensures))
+          (u .unmet .result) (u .unmet .ensures) (ended-read (board l) (u .unmet .result) _ _ _ _ _ (x .course .ensures)) (c .before .last-end .ensures) (l .loop .since) (l .loop .passed) (l .loop .inv .1 .passed-long) (c .before .before .before .store .ensures))
           (c .greater .ensures),
     )
 

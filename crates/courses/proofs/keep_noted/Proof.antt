@@ -5,7 +5,7 @@ use Prim.Native.Nat.{ℕ, _≤_, _+_, _-_}
 use native.Mathlib.Omega.{arith}
 use lib.ListN.{drop}
 use lib.Seq.{sets}
-use Rattle.course.proofs.Loops.{stores-next, stores-end}
+use Rattle.event.proofs.Loops.{stores-next, stores-end}
 use Rattle.courses.proofs.keep_noted.Statement.{statement}
 use borrow.Author.Needs.{needs}
 use Rattle.courses.proofs.keep_noted.Tie as tie

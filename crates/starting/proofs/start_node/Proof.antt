@@ -78,7 +78,7 @@ returns-2 c =
     let old = c .before .has-news .ensures (c .if2 .left) in
     let same =
     idle-step (a .processes) (a .remote .now) (a .from .now) (a .cue .now) (a .unmet .now) (a .run .now) (a .several .now) (a .intofirst .now) (a .into .now) (a .u) (a .turnfirst .now) (a .turn .now) (a .ticks .now) (a .n)
-    (record { busy = a .busy .now; comes = a .comes .now }) (s .pre .8 (omega (arith, old .0)) (omega (arith, old .1))) in
+    (record { busy = a .busy .now; comes = a .comes .now }) (s .pre .8 (omega (arith, c .before .before .before .if1 .taken, old .0)) (λ q. absurd (omega (arith, old .1, q)))) in
     (ap (λ (z : Ends). z .busy) (sym same), ap (λ (z : Ends). z .comes) (sym same))
 
 returns-3 : tie.Need-returns-3

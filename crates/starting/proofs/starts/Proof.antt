@@ -2,7 +2,7 @@
 -- still has nothing to start.
 -- Assumes nothing.
 use mathlib.Core.Path.{_≡_, refl, sym, ap, _∙_, subst}
-use Prim.Native.Nat.{ℕ, _-_, _≤_}
+use Prim.Native.Nat.{ℕ, _-_, _≤_, _<_}
 use native.Mathlib.Numerals.{add-one}
 use native.Mathlib.Omega.{arith}
 use lib.ListN.{getD}
@@ -14,11 +14,11 @@ use Rattle.starting.proofs.starts.Statement.{statement}
 use Rattle.starting.proofs.starts.Tie as tie
 
 abbrev Inv-loop : tie.InvT-loop
-Inv-loop processes slots remote from cue unmet run several intofirst into turnfirst turn ticks u looked stirred busy₀ comes₀ n₀ busy comes n =
+Inv-loop processes slots remote from cue unmet run several intofirst into turnfirst turn ticks u stirred busy₀ comes₀ n₀ busy comes n =
     (n ≤ slots) × (record { busy = busy; comes = comes } ≡ starts-by processes remote from cue unmet run several intofirst into u turnfirst turn ticks n (record { busy = busy₀; comes = comes₀ }))
 
 abbrev μ-loop : tie.MeasureT-loop
-μ-loop processes slots remote from cue unmet run several intofirst into turnfirst turn ticks u looked stirred busy₀ comes₀ n₀ busy comes n =
+μ-loop processes slots remote from cue unmet run several intofirst into turnfirst turn ticks u stirred busy₀ comes₀ n₀ busy comes n =
     slots - n
 
 loop-holds : tie.Need-loop-holds Inv-loop μ-loop
@@ -41,10 +41,10 @@ start-node-requires c κs =
       s .7,
       subst
           (λ (e : Ends).
-          getD (e .busy) (l .loop .n) 0 ≤ a .looked → getD (a .stirred .now) (l .loop .n) 0 ≤ a .looked →
+          getD (e .busy) (l .loop .n) 0 < a .u → (getD (a .stirred .now) (l .loop .n) 0 ≡ a .u → ⊥) →
           Idle (a .processes) (a .remote .now) (a .from .now) (a .cue .now) (a .unmet .now) (a .run .now) (a .several .now) (a .intofirst .now) (a .into .now) (a .u) (a .turnfirst .now) (a .turn .now) (e .comes) (l .loop .n))
           (sym at)
-          (idle-then (a .processes) (a .remote .now) (a .from .now) (a .cue .now) (a .unmet .now) (a .run .now) (a .several .now) (a .intofirst .now) (a .into .now) (a .u) (a .turnfirst .now) (a .turn .now) (a .ticks .now) (a .slots) (a .looked) (a .stirred .now) (a .busy .now) (a .comes .now)
+          (idle-then (a .processes) (a .remote .now) (a .from .now) (a .cue .now) (a .unmet .now) (a .run .now) (a .several .now) (a .intofirst .now) (a .into .now) (a .u) (a .turnfirst .now) (a .turn .now) (a .ticks .now) (a .slots) (a .stirred .now) (a .busy .now) (a .comes .now)
           (s .5) (s .8) (l .loop .n) (omega arith)),
     )
 

@@ -1,0 +1,147 @@
+-- What a slot stirs: a node stays as it was or is stirred at the slot's end, and the receivers of what it carries are.
+-- Assumes nothing.
+use Prim.Native.Nat.{ℕ, zero, suc, _+_, _-_, _≤_, _<_}
+use mathlib.Core.Path.{_≡_, refl, sym, ap, _∙_}
+use mathlib.Core.Logic.{_⊎_, inl, inr}
+use mathlib.Core.Bool.{Bool, true, false}
+use mathlib.Core.List.{List, [], _∷_, List·Memᴰ as In, List·Memᴰ·head as here, List·Memᴰ·tail as there, List·Memᴰ·not-nil as in-none}
+use native.Mathlib.Omega.{arith}
+use lib.Dec.{eqb}
+use lib.ListN.{length, getD, set, length-set}
+use lib.Seq.{getD-set-other}
+use borrow.Author.Tests.{eqb-true, eq-eqb}
+use Rattle.lists.specs.Lists.{if_then_else_}
+use Rattle.lists.proofs.Tests.{below-suc}
+use Rattle.starting.proofs.Ends.{set-there}
+use Rattle.packing.proofs.Rows.{set-either}
+use Rattle.serving.specs.Serving.{stir-all, stir-one, stir-each, stir-by}
+
+-- every node is stirred
+all-either : (end n : ℕ) (s : List ℕ) (k : ℕ) → (getD (stir-all end n s) k 0 ≡ getD s k 0) ⊎ (getD (stir-all end n s) k 0 ≡ end)
+unfolding stir-all
+all-either end zero s k = inl refl
+all-either end (suc n) s k = at (set-either (stir-all end n s) n end k) (all-either end n s k)
+  where
+    at : (getD (set (stir-all end n s) n end) k 0 ≡ getD (stir-all end n s) k 0) ⊎ (getD (set (stir-all end n s) n end) k 0 ≡ end) → (getD (stir-all end n s) k 0 ≡ getD s k 0) ⊎ (getD (stir-all end n s) k 0 ≡ end) →
+        (getD (set (stir-all end n s) n end) k 0 ≡ getD s k 0) ⊎ (getD (set (stir-all end n s) n end) k 0 ≡ end)
+    at (inr q) h = inr q
+    at (inl q) (inl h) = inl (q ∙ h)
+    at (inl q) (inr h) = inr (q ∙ h)
+
+all-long : (end n : ℕ) (s : List ℕ) → length (stir-all end n s) ≡ length s
+unfolding stir-all
+all-long end zero s = refl
+all-long end (suc n) s = length-set (stir-all end n s) n end ∙ all-long end n s
+
+all-reaches : (end n : ℕ) (s : List ℕ) → n ≤ length s → (k : ℕ) → k < n → getD (stir-all end n s) k 0 ≡ end
+unfolding stir-all
+all-reaches end zero s l k m = absurd (omega arith)
+all-reaches end (suc n) s l k m = at (below-suc k n m) (all-reaches end n s (omega arith) k)
+  where
+    at : (k < n) ⊎ (k ≡ n) → (k < n → getD (stir-all end n s) k 0 ≡ end) → getD (set (stir-all end n s) n end) k 0 ≡ end
+    at (inl j) h = getD-set-other (stir-all end n s) n k end 0 (λ q. omega arith) ∙ h j
+    at (inr q) h = set-there (stir-all end n s) n k end (omega (arith, all-long end n s)) q
+
+-- the receiver of one message is, if the message arrives then
+one-either : (come to end : ℕ) (s : List ℕ) (k : ℕ) → (getD (stir-one come to end s) k 0 ≡ getD s k 0) ⊎ ((getD (stir-one come to end s) k 0 ≡ end) × (come ≡ end))
+unfolding stir-one
+one-either come to end s k = at (eqb come end) refl
+  where
+    by : (eqb come end ≡ true) → (getD (set s (to - 1) end) k 0 ≡ getD s k 0) ⊎ (getD (set s (to - 1) end) k 0 ≡ end) →
+        (getD (set s (to - 1) end) k 0 ≡ getD s k 0) ⊎ ((getD (set s (to - 1) end) k 0 ≡ end) × (come ≡ end))
+    by e (inl q) = inl q
+    by e (inr q) = inr (q, eqb-true come end e)
+
+    at : (b : Bool) → eqb come end ≡ b → (getD (if b then set s (to - 1) end else s) k 0 ≡ getD s k 0) ⊎ ((getD (if b then set s (to - 1) end else s) k 0 ≡ end) × (come ≡ end))
+    at true e = by e (set-either s (to - 1) end k)
+    at false e = inl refl
+
+one-long : (come to end : ℕ) (s : List ℕ) → length (stir-one come to end s) ≡ length s
+unfolding stir-one
+one-long come to end s = at (eqb come end)
+  where
+    at : (b : Bool) → length (if b then set s (to - 1) end else s) ≡ length s
+    at true = length-set s (to - 1) end
+    at false = refl
+
+one-reaches : (come to end : ℕ) (s : List ℕ) (k : ℕ) → come ≡ end → to ≡ suc k → k < length s → getD (stir-one come to end s) k 0 ≡ end
+unfolding stir-one
+one-reaches come to end s k q e l = rw (eq-eqb come end q) (set-there s (to - 1) k end (omega arith) (omega arith))
+
+module _ (processes : ℕ) (remote comes : List ℕ) (end : ℕ) where
+  abbrev each : List ℕ → List ℕ → List ℕ
+  each = stir-each processes remote comes end
+
+  abbrev one : ℕ → List ℕ → List ℕ
+  one e s = stir-one (getD comes (processes + e) 0) (getD remote e 0) end s
+
+  abbrev Arrived : List ℕ → Type 0
+  Arrived es = (e : ℕ) × In e es × (getD comes (processes + e) 0 ≡ end)
+
+  each-either : (es s : List ℕ) (k : ℕ) → (getD (each es s) k 0 ≡ getD s k 0) ⊎ ((getD (each es s) k 0 ≡ end) × Arrived es)
+  unfolding stir-each
+  each-either [] s k = inl refl
+  each-either (e ∷ es) s k = at (each-either es (one e s) k) (one-either (getD comes (processes + e) 0) (getD remote e 0) end s k)
+    where
+      at : (getD (each es (one e s)) k 0 ≡ getD (one e s) k 0) ⊎ ((getD (each es (one e s)) k 0 ≡ end) × Arrived es) →
+          (getD (one e s) k 0 ≡ getD s k 0) ⊎ ((getD (one e s) k 0 ≡ end) × (getD comes (processes + e) 0 ≡ end)) →
+          (getD (each es (one e s)) k 0 ≡ getD s k 0) ⊎ ((getD (each es (one e s)) k 0 ≡ end) × Arrived (e ∷ es))
+      at (inr q) h = inr (q .0, (q .1 .0, there (q .1 .1), q .1 .2))
+      at (inl q) (inl h) = inl (q ∙ h)
+      at (inl q) (inr h) = inr (q ∙ h .0, (e, here refl, h .1))
+
+  each-long : (es s : List ℕ) → length (each es s) ≡ length s
+  unfolding stir-each
+  each-long [] s = refl
+  each-long (e ∷ es) s = each-long es (one e s) ∙ one-long (getD comes (processes + e) 0) (getD remote e 0) end s
+
+  each-reaches : (es s : List ℕ) (e k : ℕ) → In e es → getD comes (processes + e) 0 ≡ end → getD remote e 0 ≡ suc k → k < length s → getD (each es s) k 0 ≡ end
+  unfolding stir-each
+  each-reaches [] s e k m q t l = absurd (in-none m)
+  each-reaches (d ∷ es) s e k (here w) q t l = at (each-either es (one d s) k)
+    where
+      now : getD (one d s) k 0 ≡ end
+      now = one-reaches (getD comes (processes + d) 0) (getD remote d 0) end s k (ap (λ (z : ℕ). getD comes (processes + z) 0) (sym w) ∙ q) (ap (λ (z : ℕ). getD remote z 0) (sym w) ∙ t) l
+
+      at : (getD (each es (one d s)) k 0 ≡ getD (one d s) k 0) ⊎ ((getD (each es (one d s)) k 0 ≡ end) × Arrived es) → getD (each es (one d s)) k 0 ≡ end
+      at (inl h) = h ∙ now
+      at (inr h) = h .0
+  each-reaches (d ∷ es) s e k (there m) q t l =
+      each-reaches es (one d s) e k m q t (omega (arith, one-long (getD comes (processes + d) 0) (getD remote d 0) end s))
+
+  module _ (slots told : ℕ) (es s : List ℕ) where
+    -- a node is stirred only where a broadcast or a message arrives
+    pub stir-either : (k : ℕ) →
+        (getD (stir-by processes remote comes end slots told es s) k 0 ≡ getD s k 0)
+        ⊎ ((getD (stir-by processes remote comes end slots told es s) k 0 ≡ end) × ((told ≡ end) ⊎ ((e : ℕ) × In e es × (getD comes (processes + e) 0 ≡ end))))
+    unfolding stir-by
+    stir-either k = at (eqb told end) refl (all-either end slots s k) (each-either es s k)
+      where
+        at : (b : Bool) → eqb told end ≡ b → (getD (stir-all end slots s) k 0 ≡ getD s k 0) ⊎ (getD (stir-all end slots s) k 0 ≡ end) →
+            (getD (each es s) k 0 ≡ getD s k 0) ⊎ ((getD (each es s) k 0 ≡ end) × Arrived es) →
+            (getD (if b then stir-all end slots s else each es s) k 0 ≡ getD s k 0)
+            ⊎ ((getD (if b then stir-all end slots s else each es s) k 0 ≡ end) × ((told ≡ end) ⊎ Arrived es))
+        at true e (inl q) h = inl q
+        at true e (inr q) h = inr (q, inl (eqb-true told end e))
+        at false e q (inl h) = inl h
+        at false e q (inr h) = inr (h .0, inr (h .1))
+
+    pub stir-long : length (stir-by processes remote comes end slots told es s) ≡ length s
+    unfolding stir-by
+    stir-long = at (eqb told end)
+      where
+        at : (b : Bool) → length (if b then stir-all end slots s else each es s) ≡ length s
+        at true = all-long end slots s
+        at false = each-long es s
+
+    pub stir-told : told ≡ end → slots ≤ length s → (k : ℕ) → k < slots → getD (stir-by processes remote comes end slots told es s) k 0 ≡ end
+    unfolding stir-by
+    stir-told q n k l = rw (eq-eqb told end q) (all-reaches end slots s n k l)
+
+    pub stir-reaches : slots ≤ length s → (e k : ℕ) → In e es → getD comes (processes + e) 0 ≡ end → getD remote e 0 ≡ suc k → k < slots → getD (stir-by processes remote comes end slots told es s) k 0 ≡ end
+    unfolding stir-by
+    stir-reaches n e k m q t l = at (eqb told end)
+      where
+        at : (b : Bool) → getD (if b then stir-all end slots s else each es s) k 0 ≡ end
+        at true = all-reaches end slots s n k l
+        at false = each-reaches es s e k m q t (omega arith)

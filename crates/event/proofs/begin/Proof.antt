@@ -1,0 +1,23 @@
+-- `event::begin` meets its contract: the nodes start where the test says so, and nothing changes elsewhere.
+-- Assumes nothing.
+use borrow.Author.Tests.{eq-eqb, ne-eqb}
+use borrow.Author.Needs.{needs}
+use Rattle.event.specs.Course.{begun-by}
+use Rattle.event.proofs.begin.Statement.{statement}
+use Rattle.event.proofs.begin.Tie as tie
+
+starts-requires : tie.Need-starts-requires
+starts-requires c κs = search needs
+
+returns : tie.Need-returns
+unfolding begun-by
+returns c =
+    let q = eq-eqb _ _ (c .before .before .before .if1 .taken) in
+    (rw q (c .starts .ensures .0), rw q (c .starts .ensures .1))
+
+returns-2 : tie.Need-returns-2
+unfolding begun-by
+returns-2 c = let e = ne-eqb _ _ (c .if1 .left) in (rw e, rw e)
+
+pub begin-spec : {M : Type 1} → statement M
+begin-spec = tie.close (tie.spec starts-requires returns returns-2)

@@ -1,0 +1,75 @@
+-- What is kept by node from event to event, so that an event works out again only what changed, in the words of the arrays: `due` has the clock at which the
+-- node's slot next takes an item, `no-event` where the node has none pending, and `stirred` the last clock at which an item arrives at it.
+-- Assumes nothing.
+use Prim.Native.Nat.{ℕ, zero, suc, min, _+_, _-_, _≤_, _<_}
+use mathlib.Core.Path.{_≡_}
+use mathlib.Core.Logic.{_⊎_}
+use mathlib.Core.Bool.{true}
+use mathlib.Core.List.{List}
+use lib.Dec.{eqb}
+use lib.ListN.{length, getD}
+use Rattle.lists.specs.Lists.{if_then_else_}
+use Rattle.starting.specs.Quiet.{Idle}
+use Rattle.board.specs.declared.Board.{Board}
+use Rattle.serving.specs.Serving.{no-event, due-from}
+use Rattle.event.specs.Course.{Moment, begins-by, sooner-by, come-by, waiting}
+
+-- the node below n whose slot takes an item at the clock, or the number of slots
+unfoldable pub served-by : List ℕ → ℕ → ℕ → ℕ → ℕ
+served-by due u slots zero = slots
+served-by due u slots (suc n) = if eqb (getD due n 0) u then n else served-by due u slots n
+
+-- the next clock at which a row is over: worked out again where one is over at the clock u; where only a slot began, at most its end is sooner
+unfoldable pub come-now : ℕ → ℕ → List ℕ → ℕ → ℕ → ℕ
+come-now come flight busy u slots = if eqb come u then come-by flight busy u slots else sooner-by come flight u
+
+-- the next event: `come`, or when the slot of a node below n takes an item
+unfoldable pub event-now : List ℕ → ℕ → ℕ → ℕ
+event-now due come zero = come
+event-now due come (suc n) = min (event-now due come n) (getD due n 0)
+
+-- a clock that is past, or at which a slot ends that began before the clock u
+pub data Past (b : Board) (u x : ℕ) : Type 0 where
+  past : x ≤ u → Past b u x
+  under-way : (n o : ℕ) → n < b .slots → begins-by (b .round) (b .offset) o n ≡ true → suc o < u → x ≡ suc o + getD (b .lasts) n 0 → Past b u x
+
+-- What is kept says the truth where planning stands at an event.
+pub record Kept (b : Board) (unmet : List ℕ) (m : Moment) (stirred due : List ℕ) : Type 0 where
+  pub from-one : 1 ≤ m .u
+  -- an edge that is not met goes by a condition
+  pub told-apart : (e : ℕ) → (getD unmet e 0 ≡ 0 → ⊥) → (k : ℕ) × (k < b .conditions) × (getD (b .cue) e 0 ≡ b .tell + k)
+  -- no row is over between the event before and this one: `come` is not before it, and where a process ends or an item arrives at it, `come` is the event
+  pub come-from : m .u ≤ m .come
+  pub come-ahead : (m .come ≡ m .u → ⊥) → m .come ≡ come-by (m .flight) (m .busy) (m .u) (b .slots)
+  pub end-over : (n : ℕ) → n < b .slots → getD (m .busy) n 0 ≡ m .u → m .come ≡ m .u
+  pub stirred-over : (n : ℕ) → n < b .slots → getD stirred n 0 ≡ m .u → m .come ≡ m .u
+  -- what is still to arrive arrives with the slot that was used last: a broadcast at `told`, and at each node what stirs it
+  pub flight-past : Past b (m .u) (m .flight)
+  pub items : (r : ℕ) → b .processes ≤ r → (getD (m .comes) r 0 ≤ m .u) ⊎ (getD (m .comes) r 0 ≡ m .flight)
+  pub told-with : (m .told ≤ m .u) ⊎ (m .told ≡ m .flight)
+  pub told-stirs : (n : ℕ) → n < b .slots → (m .told < m .u) ⊎ (getD stirred n 0 ≡ m .told)
+  pub stirred-with : (n : ℕ) → n < b .slots → (getD stirred n 0 ≤ m .u) ⊎ (getD stirred n 0 ≡ m .flight)
+  pub tells : (k : ℕ) → k < b .conditions → (getD (m .comes) (b .tell + k) 0 ≤ m .u) ⊎ (getD (m .comes) (b .tell + k) 0 ≡ m .told)
+  pub sends : (e n : ℕ) → n < b .slots → getD (b .remote) e 0 ≡ suc n → (getD (m .comes) (b .processes + e) 0 ≤ m .u) ⊎ (getD (m .comes) (b .processes + e) 0 ≡ getD stirred n 0)
+  -- of the processes of a node only the last may still run
+  pub ends-last : (i : ℕ) → i < b .processes → (getD (m .comes) i 0 ≤ m .u) ⊎ (getD (m .comes) i 0 ≡ getD (m .busy) (getD (b .node) i 0) 0)
+  -- a node whose last process ended before, and that is not stirred at this event, has nothing to start
+  pub idle : (n : ℕ) → n < b .slots → getD (m .busy) n 0 < m .u → (getD stirred n 0 ≡ m .u → ⊥) →
+      Idle (b .processes) (b .remote) (b .from) (b .cue) unmet (m .run) (b .several) (b .intofirst) (b .into) (m .u) (b .turnfirst) (b .turn) (m .comes) n
+  -- the slot of a node for which neither a broadcast arrives nor a process ends at this event next takes an item when `due` says; past the nodes there is none
+  pub dues : (n : ℕ) → n < b .slots → (m .told ≡ m .u → ⊥) → (getD (m .busy) n 0 ≡ m .u → ⊥) →
+      getD due n 0 ≡ due-from (b .round) (getD (b .offset) n 0) (m .u - 1) (waiting b unmet (m .comes) (m .u) n)
+  pub dues-past : (n : ℕ) → b .slots ≤ n → n < 8 → getD due n 0 ≡ no-event
+  pub busy-long : length (m .busy) ≡ 8
+  pub stirred-long : length stirred ≡ 8
+  pub due-long : length due ≡ 8
+  pub comes-long : length (m .comes) ≡ 198
+
+-- What planning may begin from at a clock: an edge that is not met goes by a condition; `busy` has the ends of the nodes' last processes, and of the processes
+-- of a node only the last may end after the clock; no item is under way.
+pub record Begins (b : Board) (unmet : List ℕ) (start : ℕ) (busy comes : List ℕ) : Type 0 where
+  pub told-apart : (e : ℕ) → (getD unmet e 0 ≡ 0 → ⊥) → (k : ℕ) × (k < b .conditions) × (getD (b .cue) e 0 ≡ b .tell + k)
+  pub ends-most : (i : ℕ) → i < b .processes → getD comes i 0 ≤ getD busy (getD (b .node) i 0) 0
+  pub ends-last : (i : ℕ) → i < b .processes → (getD comes i 0 ≤ start) ⊎ (getD comes i 0 ≡ getD busy (getD (b .node) i 0) 0)
+  pub items-past : (r : ℕ) → b .processes ≤ r → getD comes r 0 ≤ start
+  pub busy-long : length busy ≡ 8

@@ -1,0 +1,410 @@
+-- What a slot leaves: after it has taken its items, its node has an item pending just where a ready item was not taken.
+-- Assumes nothing.
+use mathlib.Core.Path.{_≡_, refl, sym, ap, _∙_, subst}
+use mathlib.Core.Logic.{_⊎_, inl, inr}
+use mathlib.Core.Bool.{Bool, true, false, not, _&&_, _||_}
+use mathlib.Core.List.{List, [], _∷_, List·Memᴰ as In, List·Memᴰ·head as here, List·Memᴰ·tail as there}
+use Prim.Native.Nat.{ℕ, zero, suc, _+_, _≤_, _<_}
+use native.Mathlib.Omega.{arith}
+use lib.Dec.{eqb, leb, ltb}
+use lib.ListN.{length, getD, set, length-set}
+use lib.Seq.{getD-set-same, getD-set-other}
+use borrow.Author.Tests.{eqb-true, eqb-false, ne-eqb, ltb-true, ltb-false, leb-true, lt-ltb, le-ltb, le-leb}
+use Rattle.lists.specs.Lists.{if_then_else_, any, keep, below, repeated}
+use Rattle.lists.proofs.Tests.{two, both, clash, and-false, or-false, or-right}
+use Rattle.lists.proofs.Members.{any-same, keep-in, below-in}
+use Rattle.lists.proofs.Different.{keep-different, different-parts, different-upfrom}
+use Rattle.mask.specs.Masks.{members, mask-from}
+use Rattle.mask.proofs.Built.{built-members}
+use Rattle.readiness.specs.Reading.{came-by, placed-by, part, message-by}
+use Rattle.packing.specs.Packing.{Load, load, tells-by, waits-by, pending-by, laid, passed, tried, tell-all, all-told, try-send, send-all, tells-sent, send-by}
+use Rattle.packing.proofs.Rows.{set-either, came-kept}
+
+again : (b : Bool) → not (not b) ≡ true → b ≡ true
+again true e = refl
+again false e = e
+
+-- a row that is placed or not, by what stands there
+placed-not : (comes : List ℕ) (r : ℕ) → getD comes r 0 ≡ 0 → placed-by comes r ≡ false
+unfolding placed-by
+placed-not comes r q = ap (λ (x : ℕ). not (eqb x 0)) q
+
+placed-now : (comes : List ℕ) (r : ℕ) → (getD comes r 0 ≡ 0 → ⊥) → placed-by comes r ≡ true
+unfolding placed-by
+placed-now comes r d = ap not (ne-eqb (getD comes r 0) 0 d)
+
+pub placed-row : (comes comes′ : List ℕ) (r : ℕ) → getD comes′ r 0 ≡ getD comes r 0 → placed-by comes′ r ≡ placed-by comes r
+unfolding placed-by
+placed-row comes comes′ r q = ap (λ (x : ℕ). not (eqb x 0)) q
+
+-- an item that waits is not placed, and a broadcast that waits is one of the node's
+pub waits-free : (processes : ℕ) (from cue unmet : List ℕ) (u : ℕ) (comes : List ℕ) (e : ℕ) → waits-by processes from cue unmet comes u e ≡ true → getD comes (processes + e) 0 ≡ 0
+unfolding waits-by placed-by
+waits-free processes from cue unmet u comes e w =
+    eqb-true _ _ (again _ (both (not (not (eqb (getD comes (processes + e) 0) 0))) (message-by from cue unmet comes u e) w .0))
+
+pub tells-free : (tell : ℕ) (decider node : List ℕ) (n u : ℕ) (comes : List ℕ) (k : ℕ) → tells-by tell decider node comes n u k ≡ true → (getD node (getD decider k 0) 0 ≡ n) × (getD comes (tell + k) 0 ≡ 0)
+unfolding tells-by placed-by
+tells-free tell decider node n u comes k w =
+    let a = both (eqb (getD node (getD decider k 0) 0) n && not (not (eqb (getD comes (tell + k) 0) 0))) (came-by comes u (getD decider k 0)) w in
+    let c = both (eqb (getD node (getD decider k 0) 0) n) (not (not (eqb (getD comes (tell + k) 0) 0))) (a .0) in
+    (eqb-true _ _ (c .0), eqb-true _ _ (again _ (c .1)))
+
+-- rows that change only from not placed to the slot's end, which is after the clock
+module _ (u end : ℕ) (late : u < end) where
+  abbrev Grown : List ℕ → List ℕ → Type 0
+  Grown comes comes′ = (r : ℕ) → (getD comes′ r 0 ≡ getD comes r 0) ⊎ ((getD comes r 0 ≡ 0) × (getD comes′ r 0 ≡ end))
+
+  grown-on : (xs ys zs : List ℕ) → Grown xs ys → Grown ys zs → Grown xs zs
+  grown-on xs ys zs g h r = at (g r) (h r)
+    where
+      at : (getD ys r 0 ≡ getD xs r 0) ⊎ ((getD xs r 0 ≡ 0) × (getD ys r 0 ≡ end)) → (getD zs r 0 ≡ getD ys r 0) ⊎ ((getD ys r 0 ≡ 0) × (getD zs r 0 ≡ end)) →
+          (getD zs r 0 ≡ getD xs r 0) ⊎ ((getD xs r 0 ≡ 0) × (getD zs r 0 ≡ end))
+      at (inl p) (inl q) = inl (q ∙ p)
+      at (inl p) (inr q) = inr (sym p ∙ q .0, q .1)
+      at (inr p) (inl q) = inr (p .0, q ∙ p .1)
+      at (inr p) (inr q) = inr (p .0, q .1)
+
+  grown-set : (xs : List ℕ) (i : ℕ) → getD xs i 0 ≡ 0 → Grown xs (set xs i end)
+  grown-set xs i z r = at (two (eqb r i)) (set-either xs i end r)
+    where
+      at : (eqb r i ≡ true) ⊎ (eqb r i ≡ false) → (getD (set xs i end) r 0 ≡ getD xs r 0) ⊎ (getD (set xs i end) r 0 ≡ end) →
+          (getD (set xs i end) r 0 ≡ getD xs r 0) ⊎ ((getD xs r 0 ≡ 0) × (getD (set xs i end) r 0 ≡ end))
+      at e (inl q) = inl q
+      at (inl e) (inr q) = inr (ap (λ (k : ℕ). getD xs k 0) (eqb-true r i e) ∙ z, q)
+      at (inr e) (inr q) = inl (getD-set-other xs i r end 0 (eqb-false r i e))
+
+  -- what is placed stays placed
+  placed-grown : (xs ys : List ℕ) → Grown xs ys → (r : ℕ) → placed-by xs r ≡ true → placed-by ys r ≡ true
+  placed-grown xs ys g r p = at (g r)
+    where
+      at : (getD ys r 0 ≡ getD xs r 0) ⊎ ((getD xs r 0 ≡ 0) × (getD ys r 0 ≡ end)) → placed-by ys r ≡ true
+      at (inl q) = placed-row xs ys r q ∙ p
+      at (inr q) = clash p (placed-not xs r (q .0))
+
+  -- messages
+  module _ (processes : ℕ) (from cue unmet bytes : List ℕ) (room : ℕ) where
+    abbrev waits : List ℕ → ℕ → Bool
+    waits comes e = waits-by processes from cue unmet comes u e
+
+    message-same : (xs ys : List ℕ) → Grown xs ys → (e : ℕ) → message-by from cue unmet ys u e ≡ message-by from cue unmet xs u e
+    unfolding message-by
+    message-same xs ys g e =
+        let c : came-by ys u ≡ came-by xs u = came-kept u end late xs ys g in
+        λ j. eqb (getD unmet e 0) 0 && (c j (getD from e 0) && c j (getD cue e 0))
+
+    waits-placed : (xs : List ℕ) (e : ℕ) → placed-by xs (processes + e) ≡ true → waits xs e ≡ false
+    unfolding waits-by
+    waits-placed xs e p = rw p refl
+
+    waits-gone : (xs ys : List ℕ) → Grown xs ys → (e : ℕ) → waits xs e ≡ false → waits ys e ≡ false
+    unfolding waits-by
+    waits-gone xs ys g e w = at (two (placed-by xs (processes + e)))
+      where
+        at : (placed-by xs (processes + e) ≡ true) ⊎ (placed-by xs (processes + e) ≡ false) → (not (placed-by ys (processes + e)) && message-by from cue unmet ys u e) ≡ false
+        at (inl p) = rw (placed-grown xs ys g (processes + e) p) refl
+        at (inr p) =
+            let m : message-by from cue unmet xs u e ≡ false = sym (ap (λ (z : Bool). not z && message-by from cue unmet xs u e) p) ∙ w in
+            ap (λ (z : Bool). not (placed-by ys (processes + e)) && z) (message-same xs ys g e ∙ m) ∙ and-false (not (placed-by ys (processes + e)))
+
+    waits-stay : (xs ys : List ℕ) → Grown xs ys → (e : ℕ) → getD ys (processes + e) 0 ≡ getD xs (processes + e) 0 → waits ys e ≡ waits xs e
+    unfolding waits-by
+    waits-stay xs ys g e q = λ j. not (placed-row xs ys (processes + e) q j) && message-same xs ys g e j
+
+    abbrev fits : ℕ → Load → Bool
+    fits e s = ltb (s .used) room && leb (s .used + getD bytes e 0) room
+
+    data Step (e : ℕ) (s s′ : Load) : Type 0 where
+      skip : waits (s .comes) e ≡ false → s′ ≡ s → Step e s s′
+      take : waits (s .comes) e ≡ true → fits e s ≡ true → s′ ≡ laid end (processes + e) (getD bytes e 0) s → Step e s s′
+      pass : waits (s .comes) e ≡ true → fits e s ≡ false → s′ ≡ passed s → Step e s s′
+
+    step : (e : ℕ) (s : Load) → Step e s (try-send processes from cue unmet bytes room u end e s)
+    unfolding try-send tried
+    step e s = at (waits (s .comes) e) refl (fits e s) refl
+      where
+        at : (a : Bool) → waits (s .comes) e ≡ a → (b : Bool) → fits e s ≡ b → Step e s (if a then (if b then laid end (processes + e) (getD bytes e 0) s else passed s) else s)
+        at false p b q = skip p refl
+        at true p true q = take p q refl
+        at true p false q = pass p q refl
+
+    -- what one message changes
+    step-grown : (e : ℕ) (s s′ : Load) → Step e s s′ → Grown (s .comes) (s′ .comes)
+    unfolding laid passed
+    step-grown e s s′ (skip w q) = λ r. inl (ap (λ (z : Load). getD (z .comes) r 0) q)
+    step-grown e s s′ (pass w f q) = λ r. inl (ap (λ (z : Load). getD (z .comes) r 0) q)
+    step-grown e s s′ (take w f q) = subst (λ (z : Load). Grown (s .comes) (z .comes)) (sym q) (grown-set (s .comes) (processes + e) (waits-free processes from cue unmet u (s .comes) e w))
+
+    step-used : (e : ℕ) (s s′ : Load) → Step e s s′ → s .used ≤ s′ .used
+    unfolding laid passed
+    step-used e s s′ (skip w q) = omega (arith, ap (λ (z : Load). z .used) q)
+    step-used e s s′ (pass w f q) = omega (arith, ap (λ (z : Load). z .used) q)
+    step-used e s s′ (take w f q) = omega (arith, ap (λ (z : Load). z .used) q)
+
+    step-long : (e : ℕ) (s s′ : Load) → Step e s s′ → length (s′ .comes) ≡ length (s .comes)
+    unfolding laid passed
+    step-long e s s′ (skip w q) = ap (λ (z : Load). length (z .comes)) q
+    step-long e s s′ (pass w f q) = ap (λ (z : Load). length (z .comes)) q
+    step-long e s s′ (take w f q) = ap (λ (z : Load). length (z .comes)) q ∙ length-set (s .comes) (processes + e) end
+
+    abbrev one : ℕ → Load → Load
+    one e s = try-send processes from cue unmet bytes room u end e s
+
+    abbrev all : List ℕ → Load → Load
+    all es s = send-all processes from cue unmet bytes room u end es s
+
+    all-grown : (es : List ℕ) (s : Load) → Grown (s .comes) (all es s .comes)
+    unfolding send-all
+    all-grown [] s = λ r. inl refl
+    all-grown (e ∷ es) s = grown-on (s .comes) (one e s .comes) (all es (one e s) .comes) (step-grown e s (one e s) (step e s)) (all-grown es (one e s))
+
+    all-long : (es : List ℕ) (s : Load) → length (all es s .comes) ≡ length (s .comes)
+    unfolding send-all
+    all-long [] s = refl
+    all-long (e ∷ es) s = all-long es (one e s) ∙ step-long e s (one e s) (step e s)
+
+    -- a message that does not fit never does
+    unfit : (e : ℕ) (s s′ : Load) → s .used ≤ s′ .used → fits e s ≡ false → fits e s′ ≡ false
+    unfit e s s′ l h = at (two (fits e s′))
+      where
+        at : (fits e s′ ≡ true) ⊎ (fits e s′ ≡ false) → fits e s′ ≡ false
+        at (inr q) = q
+        at (inl q) =
+            let p = both (ltb (s′ .used) room) (leb (s′ .used + getD bytes e 0) room) q in
+            let x : s′ .used < room = ltb-true _ _ (p .0) in
+            let y : s′ .used + getD bytes e 0 ≤ room = leb-true _ _ (p .1) in
+            clash (rw (lt-ltb (s .used) room (omega arith), le-leb (s .used + getD bytes e 0) room (omega arith)) refl) h
+
+    step-other : (d e : ℕ) (s s′ : Load) → fits e s ≡ false → Step d s s′ → getD (s′ .comes) (processes + e) 0 ≡ getD (s .comes) (processes + e) 0
+    unfolding laid passed
+    step-other d e s s′ h (skip w q) = ap (λ (z : Load). getD (z .comes) (processes + e) 0) q
+    step-other d e s s′ h (pass w f q) = ap (λ (z : Load). getD (z .comes) (processes + e) 0) q
+    step-other d e s s′ h (take w f q) = ap (λ (z : Load). getD (z .comes) (processes + e) 0) q ∙ at (two (eqb e d))
+      where
+        at : (eqb e d ≡ true) ⊎ (eqb e d ≡ false) → getD (set (s .comes) (processes + d) end) (processes + e) 0 ≡ getD (s .comes) (processes + e) 0
+        at (inl z) = clash (ap (λ (k : ℕ). fits k s) (eqb-true e d z) ∙ f) h
+        at (inr z) = let v : e ≡ d → ⊥ = eqb-false e d z in getD-set-other (s .comes) (processes + d) (processes + e) end 0 (λ y. v (omega arith))
+
+    all-other : (es : List ℕ) (e : ℕ) (s : Load) → fits e s ≡ false → getD (all es s .comes) (processes + e) 0 ≡ getD (s .comes) (processes + e) 0
+    unfolding send-all
+    all-other [] e s h = refl
+    all-other (d ∷ es) e s h = all-other es e (one d s) (unfit e s (one d s) (step-used d s (one d s) (step d s)) h) ∙ step-other d e s (one d s) h (step d s)
+
+    laid-short : (e : ℕ) (s : Load) → laid end (processes + e) (getD bytes e 0) s .short ≡ s .short
+    unfolding laid
+    laid-short e s = refl
+
+    laid-there : (e : ℕ) (s : Load) → processes + e < length (s .comes) → getD (laid end (processes + e) (getD bytes e 0) s .comes) (processes + e) 0 ≡ end
+    unfolding laid
+    laid-there e s l = getD-set-same (s .comes) (processes + e) end 0 l
+
+    passed-short : (s : Load) → passed s .short ≡ true
+    unfolding passed
+    passed-short s = refl
+
+    -- a ready message was not taken just where one still waits
+    send-left : (es : List ℕ) (s : Load) → ((e : ℕ) → In e es → processes + e < length (s .comes)) → all es s .short ≡ (s .short || any (waits (all es s .comes)) es)
+    unfolding send-all
+    send-left [] s low = sym (or-false (s .short))
+    send-left (e ∷ es) s low =
+        send-left es (one e s) (λ d m. omega (arith, low d (there m), step-long e s (one e s) (step e s))) ∙ at (step e s)
+      where
+        last : List ℕ
+        last = all es (one e s) .comes
+
+        rest : Bool
+        rest = any (waits last) es
+
+        gone : waits (one e s .comes) e ≡ false → waits last e ≡ false
+        gone = waits-gone (one e s .comes) last (all-grown es (one e s)) e
+
+        on : one e s .short ≡ s .short → waits last e ≡ false → (one e s .short || rest) ≡ (s .short || (waits last e || rest))
+        on p w = (λ j. p j || rest) ∙ sym (ap (λ (z : Bool). s .short || (z || rest)) w)
+
+        at : Step e s (one e s) → (one e s .short || rest) ≡ (s .short || (waits last e || rest))
+        at (skip w q) = on (ap (λ (z : Load). z .short) q) (gone (ap (λ (z : Load). waits (z .comes) e) q ∙ w))
+        at (take w f q) = on (short q) (gone (waits-placed (one e s .comes) e (placed-now (one e s .comes) (processes + e) (λ z. absurd (omega (arith, z, stands q, late))))))
+          where
+            short : one e s ≡ laid end (processes + e) (getD bytes e 0) s → one e s .short ≡ s .short
+            short q = ap (λ (z : Load). z .short) q ∙ laid-short e s
+
+            stands : one e s ≡ laid end (processes + e) (getD bytes e 0) s → getD (one e s .comes) (processes + e) 0 ≡ end
+            stands q = ap (λ (z : Load). getD (z .comes) (processes + e) 0) q ∙ laid-there e s (low e (here refl))
+        at (pass w f q) =
+            let p : waits last e ≡ true =
+            waits-stay (s .comes) last (all-grown (e ∷ es) s) e (all-other es e (one e s) (unfit e s (one e s) (step-used e s (one e s) (step e s)) f) ∙ step-other e e s (one e s) f (step e s)) ∙ w in
+            (λ j. (ap (λ (z : Load). z .short) q ∙ passed-short s) j || rest) ∙ sym (or-right (s .short) (waits last e || rest) (ap (λ (z : Bool). z || rest) p))
+
+    -- rows of no message stay
+    step-apart : (e : ℕ) (s s′ : Load) (r : ℕ) → (r ≡ processes + e → ⊥) → Step e s s′ → getD (s′ .comes) r 0 ≡ getD (s .comes) r 0
+    unfolding laid passed
+    step-apart e s s′ r d (skip w q) = ap (λ (z : Load). getD (z .comes) r 0) q
+    step-apart e s s′ r d (pass w f q) = ap (λ (z : Load). getD (z .comes) r 0) q
+    step-apart e s s′ r d (take w f q) = ap (λ (z : Load). getD (z .comes) r 0) q ∙ getD-set-other (s .comes) (processes + e) r end 0 d
+
+    all-apart : (es : List ℕ) (s : Load) (r : ℕ) → ((e : ℕ) → In e es → r ≡ processes + e → ⊥) → getD (all es s .comes) r 0 ≡ getD (s .comes) r 0
+    unfolding send-all
+    all-apart [] s r d = refl
+    all-apart (e ∷ es) s r d = all-apart es (one e s) r (λ x m. d x (there m)) ∙ step-apart e s (one e s) r (d e (here refl)) (step e s)
+
+  -- broadcasts
+  module _ (tell : ℕ) (decider node : List ℕ) (n : ℕ) where
+    abbrev tells : List ℕ → ℕ → Bool
+    tells comes k = tells-by tell decider node comes n u k
+
+    tells-placed : (xs : List ℕ) (k : ℕ) → placed-by xs (tell + k) ≡ true → tells xs k ≡ false
+    unfolding tells-by
+    tells-placed xs k p =
+        ap (λ (z : Bool). (eqb (getD node (getD decider k 0) 0) n && not z) && came-by xs u (getD decider k 0)) p
+        ∙ ap (λ (z : Bool). z && came-by xs u (getD decider k 0)) (and-false (eqb (getD node (getD decider k 0) 0) n))
+
+    tells-alike : (xs ys : List ℕ) → Grown xs ys → (k : ℕ) → placed-by ys (tell + k) ≡ placed-by xs (tell + k) → tells ys k ≡ tells xs k
+    unfolding tells-by
+    tells-alike xs ys g k q =
+        let c : came-by ys u ≡ came-by xs u = came-kept u end late xs ys g in
+        λ j. (eqb (getD node (getD decider k 0) 0) n && not (q j)) && c j (getD decider k 0)
+
+    tells-stay : (xs ys : List ℕ) → Grown xs ys → (k : ℕ) → getD ys (tell + k) 0 ≡ getD xs (tell + k) 0 → tells ys k ≡ tells xs k
+    tells-stay xs ys g k q = tells-alike xs ys g k (placed-row xs ys (tell + k) q)
+
+    tells-gone : (xs ys : List ℕ) → Grown xs ys → (k : ℕ) → tells xs k ≡ false → tells ys k ≡ false
+    tells-gone xs ys g k w = at (two (placed-by ys (tell + k))) (two (placed-by xs (tell + k)))
+      where
+        at : (placed-by ys (tell + k) ≡ true) ⊎ (placed-by ys (tell + k) ≡ false) → (placed-by xs (tell + k) ≡ true) ⊎ (placed-by xs (tell + k) ≡ false) → tells ys k ≡ false
+        at (inl q) p = tells-placed ys k q
+        at (inr q) (inl p) = clash (placed-grown xs ys g (tell + k) p) q
+        at (inr q) (inr p) = tells-alike xs ys g k (q ∙ sym p) ∙ w
+
+    -- what a broadcast that is laid changes for the others
+    tells-still : (k : ℕ) (ks : List ℕ) (xs : List ℕ) → repeated (k ∷ ks) ≡ false → ((j : ℕ) → In j (k ∷ ks) → tells xs j ≡ true) → (j : ℕ) → In j ks → tells (set xs (tell + k) end) j ≡ true
+    tells-still k ks xs d h j m =
+        tells-stay xs (set xs (tell + k) end) (grown-set xs (tell + k) (tells-free tell decider node n u xs k (h k (here refl)) .1)) j
+        (getD-set-other xs (tell + k) (tell + j) end 0 (λ q. different-parts k ks d .0 (subst (λ (z : ℕ). In z ks) (omega arith) m)))
+        ∙ h j (there m)
+
+    tell-grown : (r : ℕ) (ks : List ℕ) (s : Load) → repeated ks ≡ false → ((k : ℕ) → In k ks → tells (s .comes) k ≡ true) → Grown (s .comes) (tell-all tell end r ks s .comes)
+    unfolding tell-all laid
+    tell-grown r [] s d h = λ q. inl refl
+    tell-grown zero (k ∷ ks) s d h = λ q. inl refl
+    tell-grown (suc r) (k ∷ ks) s d h =
+        grown-on (s .comes) (set (s .comes) (tell + k) end) (tell-all tell end r ks (laid end (tell + k) 1 s) .comes) (grown-set (s .comes) (tell + k) (tells-free tell decider node n u (s .comes) k (h k (here refl)) .1))
+        (tell-grown r ks (laid end (tell + k) 1 s) (different-parts k ks d .1) (tells-still k ks (s .comes) d h))
+
+    tell-short : (r : ℕ) (ks : List ℕ) (s : Load) → tell-all tell end r ks s .short ≡ s .short
+    unfolding tell-all laid
+    tell-short r [] s = refl
+    tell-short zero (k ∷ ks) s = refl
+    tell-short (suc r) (k ∷ ks) s = tell-short r ks (laid end (tell + k) 1 s)
+
+    tell-long : (r : ℕ) (ks : List ℕ) (s : Load) → length (tell-all tell end r ks s .comes) ≡ length (s .comes)
+    unfolding tell-all laid
+    tell-long r [] s = refl
+    tell-long zero (k ∷ ks) s = refl
+    tell-long (suc r) (k ∷ ks) s = tell-long r ks (laid end (tell + k) 1 s) ∙ length-set (s .comes) (tell + k) end
+
+    more : (r l : ℕ) → ltb (suc r) (suc l) ≡ ltb r l
+    more r l = at (two (ltb r l))
+      where
+        at : (ltb r l ≡ true) ⊎ (ltb r l ≡ false) → ltb (suc r) (suc l) ≡ ltb r l
+        at (inl e) = let z : r < l = ltb-true r l e in lt-ltb (suc r) (suc l) (omega arith) ∙ sym e
+        at (inr e) = let z : l ≤ r = ltb-false r l e in le-ltb (suc r) (suc l) (omega arith) ∙ sym e
+
+    -- some broadcast still waits just where there were more than bytes
+    tell-left : (r : ℕ) (ks : List ℕ) (s : Load) → repeated ks ≡ false → ((k : ℕ) → In k ks → tells (s .comes) k ≡ true) → ((k : ℕ) → In k ks → tell + k < length (s .comes)) →
+        any (tells (tell-all tell end r ks s .comes)) ks ≡ ltb r (length ks)
+    unfolding tell-all laid
+    tell-left r [] s d h low = sym (le-ltb r 0 (omega arith))
+    tell-left zero (k ∷ ks) s d h low = ap (λ (z : Bool). z || any (tells (s .comes)) ks) (h k (here refl)) ∙ sym (lt-ltb 0 (suc (length ks)) (omega arith))
+    tell-left (suc r) (k ∷ ks) s d h low =
+        let xs : List ℕ = set (s .comes) (tell + k) end in
+        let there-now : getD xs (tell + k) 0 ≡ end = getD-set-same (s .comes) (tell + k) end 0 (low k (here refl)) in
+        let still = tells-still k ks (s .comes) d h in
+        let gone : tells (tell-all tell end r ks (laid end (tell + k) 1 s) .comes) k ≡ false =
+        tells-gone xs (tell-all tell end r ks (laid end (tell + k) 1 s) .comes) (tell-grown r ks (laid end (tell + k) 1 s) (different-parts k ks d .1) still) k
+        (tells-placed xs k (placed-now xs (tell + k) (λ z. absurd (omega (arith, z, there-now, late))))) in
+        ap (λ (z : Bool). z || any (tells (tell-all tell end r ks (laid end (tell + k) 1 s) .comes)) ks) gone
+        ∙ tell-left r ks (laid end (tell + k) 1 s) (different-parts k ks d .1) still (λ j m. omega (arith, low j (there m), length-set (s .comes) (tell + k) end))
+        ∙ sym (more r (length ks))
+
+-- a test that another one implies holds for some kept member where it does for some member
+any-kept : (f g : ℕ → Bool) (xs : List ℕ) → ((x : ℕ) → f x ≡ true → g x ≡ true) → any f (keep g xs) ≡ any f xs
+any-kept f g [] h = refl
+any-kept f g (x ∷ xs) h = at (two (g x)) (two (f x)) (any-kept f g xs h)
+  where
+    at : (g x ≡ true) ⊎ (g x ≡ false) → (f x ≡ true) ⊎ (f x ≡ false) → any f (keep g xs) ≡ any f xs → any f (keep g (x ∷ xs)) ≡ any f (x ∷ xs)
+    at (inl p) q e = rw p (ap (λ (z : Bool). f x || z) e)
+    at (inr p) (inl q) e = clash (h x q) p
+    at (inr p) (inr q) e = rw (p, q) e
+
+or-swap : (a b : Bool) → (a || b) ≡ (b || a)
+or-swap true true = refl
+or-swap true false = refl
+or-swap false true = refl
+or-swap false false = refl
+
+-- a slot leaves as many rows as there were
+pub send-long : (processes tell conditions : ℕ) (decider node queue from cue unmet bytes : List ℕ) (n a b room u end : ℕ) → u < end → (comes place : List ℕ) →
+    length (send-by processes tell conditions decider node queue from cue unmet bytes n a b room u end comes place .comes) ≡ length comes
+unfolding send-by tells-sent all-told
+send-long processes tell conditions decider node queue from cue unmet bytes n a b room u end late comes place =
+    let ks : List ℕ = members (mask-from (tells-by tell decider node comes n u) 0 conditions) in
+    let start : Load = load 0 (ltb room (length ks)) comes place in
+    all-long u end late processes from cue unmet bytes room (part queue a b) (tell-all tell end room ks start) ∙ tell-long u end late tell decider node n room ks start
+
+module _ (processes tell conditions : ℕ) (decider node queue from cue unmet bytes : List ℕ) (n a b room u end : ℕ) (late : u < end) (few : conditions ≤ 6) (comes place : List ℕ)
+    (rows : (e : ℕ) → In e (part queue a b) → processes + e < tell) (long : tell + conditions ≤ length comes) where
+  abbrev ready : ℕ → Bool
+  ready k = tells-by tell decider node comes n u k
+
+  -- the node has an item pending after its slot just where the slot left one
+  pub left-pending : pending-by processes tell conditions decider node queue from cue unmet (send-by processes tell conditions decider node queue from cue unmet bytes n a b room u end comes place .comes) n a b u
+      ≡ send-by processes tell conditions decider node queue from cue unmet bytes n a b room u end comes place .short
+  unfolding pending-by send-by tells-sent all-told
+  left-pending =
+      or-swap (any (waits u end late processes from cue unmet bytes room (last .comes)) es) (any (tells u end late tell decider node n (last .comes)) (below conditions))
+      ∙ (λ j. (told ∙ sym (tell-short u end late tell decider node n room ks start)) j || any (waits u end late processes from cue unmet bytes room (last .comes)) es)
+      ∙ sym (send-left u end late processes from cue unmet bytes room es first (λ e m. omega (arith, rows e m, long, tell-long u end late tell decider node n room ks start)))
+    where
+      es : List ℕ
+      es = part queue a b
+
+      ks : List ℕ
+      ks = members (mask-from ready 0 conditions)
+
+      ks-is : ks ≡ keep ready (below conditions)
+      ks-is = built-members ready conditions few
+
+      start : Load
+      start = load 0 (ltb room (length ks)) comes place
+
+      first : Load
+      first = tell-all tell end room ks start
+
+      last : Load
+      last = send-all processes from cue unmet bytes room u end es first
+
+      apart : repeated ks ≡ false
+      apart = ap repeated ks-is ∙ keep-different ready (below conditions) (different-upfrom 0 conditions)
+
+      member : (k : ℕ) → In k ks → In k (below conditions) × (ready k ≡ true)
+      member k m = keep-in ready (below conditions) (subst (λ (xs : List ℕ). In k xs) ks-is m)
+
+      grown : Grown u end late comes (first .comes)
+      grown = tell-grown u end late tell decider node n room ks start apart (λ k m. member k m .1)
+
+      was : (k : ℕ) → tells u end late tell decider node n (first .comes) k ≡ true → ready k ≡ true
+      was k e = at (two (ready k))
+        where
+          at : (ready k ≡ true) ⊎ (ready k ≡ false) → ready k ≡ true
+          at (inl q) = q
+          at (inr q) = clash e (tells-gone u end late tell decider node n comes (first .comes) grown k q)
+
+      told : any (tells u end late tell decider node n (last .comes)) (below conditions) ≡ ltb room (length ks)
+      told =
+          any-same (tells u end late tell decider node n (last .comes)) (tells u end late tell decider node n (first .comes)) (below conditions)
+          (λ k m.
+          tells-stay u end late tell decider node n (first .comes) (last .comes) (all-grown u end late processes from cue unmet bytes room es first) k
+          (all-apart u end late processes from cue unmet bytes room es first (tell + k) (λ e w q. absurd (omega (arith, rows e w, q)))))
+          ∙ sym (any-kept (tells u end late tell decider node n (first .comes)) ready (below conditions) was)
+          ∙ sym (ap (any (tells u end late tell decider node n (first .comes))) ks-is)
+          ∙ tell-left u end late tell decider node n room ks start apart (λ k m. member k m .1) (λ k m. omega (arith, below-in conditions (member k m .0), long))

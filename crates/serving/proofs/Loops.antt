@@ -1,0 +1,36 @@
+-- What the proofs of the functions rest on: a choice whose test is known, what a slot leaves part by part, and how late a slot may begin.
+-- Assumes nothing.
+use Prim.Native.Nat.{ℕ, _+_, _-_, _%_, _≤_}
+use mathlib.Core.Path.{_≡_, sym, ap, _∙_}
+use mathlib.Core.Bool.{Bool, true, false}
+use mathlib.Core.List.{List}
+use native.Mathlib.Omega.{arith}
+use lib.Dec.{eqb, leb}
+use lib.ListN.{getD, set}
+use Rattle.lists.specs.Lists.{if_then_else_}
+use Rattle.timetable.specs.Bus.{beginning-at}
+use Rattle.packing.specs.Packing.{Load, load}
+use Rattle.serving.specs.Serving.{Bus, bus, filled}
+
+-- a choice whose test is known
+pub when : {A : Type 0} {b : Bool} (x y : A) → b ≡ true → x ≡ (if b then x else y)
+when x y e = sym (ap (λ (q : Bool). if q then x else y) e)
+
+pub unless : {A : Type 0} {b : Bool} (x y : A) → b ≡ false → y ≡ (if b then x else y)
+unless x y e = sym (ap (λ (q : Bool). if q then x else y) e)
+
+-- what a slot leaves, part by part
+pub filled-parts : (n end : ℕ) (s : Bus) {l : Load} {t : Bool} (used : ℕ) (short told : Bool) (comes place : List ℕ) {flight heard : ℕ} {passed : List ℕ} →
+    load used short comes place ≡ l → told ≡ t → flight ≡ (if eqb used 0 then s .flight else end) → heard ≡ (if told then end else s .told) →
+    passed ≡ (if short then set (s .passed) n (getD (s .passed) n 0 + 1) else s .passed) → bus flight heard comes place passed ≡ filled n end l t s
+unfolding filled
+filled-parts n end s used short told comes place e f a b c = (λ i. bus (a i) (b i) comes place (c i)) ∙ (λ i. filled n end (e i) (f i) s)
+
+-- the first beginning of a slot at or after a tick is not after it by more than a round and the offset
+pub beginning-most : (round offset t : ℕ) → beginning-at round offset t ≤ (t + round) + offset
+unfolding beginning-at
+beginning-most round offset t = at (leb (t % round) offset)
+  where
+    at : (q : Bool) → (t - t % round) + (if q then offset else round + offset) ≤ (t + round) + offset
+    at true = omega arith
+    at false = omega arith
