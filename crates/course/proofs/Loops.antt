@@ -73,6 +73,8 @@ module _ (b : Board) (unmet : List ℕ) where
         turn-own = f .turn-own;
         queue-own = f .queue-own;
         into-own = f .into-own;
+        queue-rising = f .queue-rising;
+        queue-once = f .queue-once;
         remote-most = f .remote-most;
         bytes-one = f .bytes-one;
         remote-row = f .remote-row;

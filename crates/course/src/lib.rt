@@ -13,6 +13,13 @@ fn none() -> [u32; 64]
     [0u32; 64]
 }
 
+// No message waits.
+fn no_messages() -> [u32; 128]
+    ensures { λ r. ⌜ r ≡ replicate 128 0 ⌝ }
+{
+    [0u32; 128]
+}
+
 // One number for each node.
 fn each_node(x: u32) -> [u32; 8]
     ensures { λ r. ⌜ r ≡ replicate 8 x ⌝ }
@@ -63,6 +70,8 @@ pub fn course<'a>(
     let mut busy = ends;
     let mut stirred = each_node(start);
     let mut due = each_node(2000000000);
+    let mut wait = no_messages();
+    let mut waitend = each_node(0);
     let mut under = flight;
     let mut told = start;
     let mut come = start;
@@ -104,6 +113,8 @@ pub fn course<'a>(
             noted,
             &mut stirred,
             &mut due,
+            &mut wait,
+            &mut waitend,
         );
         under = s.flight;
         told = s.told;

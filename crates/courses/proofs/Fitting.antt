@@ -11,16 +11,17 @@ use native.Mathlib.Omega.{arith}
 use lib.Dec.{eqb, leb, ltb}
 use lib.ListN.{length, getD, List·getD-eq-default}
 use borrow.Author.Tests.{eqb-true, eq-eqb, ne-eqb, ltb-true, ltb-false, not-true}
-use Rattle.lists.specs.Lists.{if_then_else_}
+use Rattle.lists.specs.Lists.{if_then_else_, repeated}
 use Rattle.lists.proofs.Tests.{two, both, clash}
 use Rattle.lists.proofs.Members.{keep-in}
+use Rattle.lists.proofs.Different.{keep-different}
 use Rattle.model.specs.Plan.{Lines, Slot, Edge, When, always, on, process, edge, local, unit}
 use Rattle.model.specs.Bus.{slot-ticks, round, offset, slot-of, first-beginning, begins}
 use Rattle.model.specs.Planning.{queue}
 use Rattle.model.specs.Refusals.{nothing, plan-refusal}
 use Rattle.laws.proofs.Good.{Good, good}
 use Rattle.laws.proofs.Slots.{slot-own, beginning-within, one-slot-a-tick, slots-apart}
-use Rattle.laws.proofs.Steps.{queue-in}
+use Rattle.laws.proofs.Steps.{queue-in, queue-once}
 use Rattle.laws.proofs.Active.{into-in}
 use Rattle.readiness.specs.Reading.{part, edges-into}
 use Rattle.readiness.specs.Holding.{cue-row, met-in, Holds}
@@ -182,6 +183,8 @@ module _ (p : Lines) (passes : plan-refusal p ≡ nothing) (b : Board) (o : Boar
         turn-own = turn-node;
         queue-own = queue-node;
         into-own = into-node;
+        queue-rising = λ n l. o .queue-rising n (in-slots n l);
+        queue-once = λ n l. ap repeated (o .queue-of n (in-slots n l)) ∙ keep-different (λ e. eqb (process p (edge p e .from) .node) n && not (local p e)) (queue p) (queue-once p);
         remote-most = o .remote-most;
         bytes-one = λ e l. omega (arith, o .sizes-of e, g .edge-one e (remote-edge e l));
         remote-row = λ e l. omega (arith, tell-count, o .processes-count, remote-edge e l);

@@ -12,7 +12,7 @@ use lib.Seq.{getD-set-other}
 use borrow.Author.Tests.{eqb-true, eqb-false, eq-eqb, ne-eqb, leb-true, leb-false}
 use Rattle.lists.specs.Lists.{if_then_else_}
 use Rattle.lists.proofs.Tests.{two, neither}
-use Rattle.lists.proofs.Fill.{each-at}
+use Rattle.lists.proofs.Fill.{each-at, zeros-at}
 use Rattle.readiness.specs.Reading.{came-by, part, edges-into}
 use Rattle.timetable.specs.Bus.{beginning-at}
 use Rattle.starting.specs.Starting.{Ends, starts-by}
@@ -21,14 +21,15 @@ use Rattle.starting.proofs.Quiet.{Alike, idle-stays, starts-idle}
 use Rattle.starting.proofs.Ends.{set-there}
 use Rattle.packing.proofs.Left.{placed-row}
 use Rattle.board.specs.declared.Board.{Board}
-use Rattle.serving.specs.Serving.{no-event, Bus, bus, fill-by, due-from, attend-below, attend-by, stir-by}
-use Rattle.event.specs.Course.{last-event, Moment, moment, begins-by, heard-by, begun-by, come-by, sooner-by, next-slot, event-by, hears, begins-with, serves, waiting, notes, next, Fits}
-use Rattle.event.specs.Kept.{served-by, come-now, event-now, Past, past, under-way, Kept, Begins}
+use Rattle.packing.specs.Packing.{stir-by}
+use Rattle.serving.specs.Serving.{no-event, Bus, bus, fill-by, due-from, attend-below, attend-by, Waiting, Roomy, Attended-all}
+use Rattle.event.specs.Course.{last-event, Moment, moment, begins-by, heard-by, begun-by, come-by, sooner-by, next-slot, event-by, hears, begins-with, serves, waiting, messages, notes, next, Fits}
+use Rattle.event.specs.Kept.{served-by, come-now, event-now, Past, past, under-way, Kept, Queued, Begins}
 use Rattle.event.proofs.Ahead.{come-after, come-flight, come-busy, come-most, come-later, come-new, event-come, event-slot, event-after}
 use Rattle.event.proofs.Beginnings.{beginning-same, past-later, past-ends}
 use Rattle.event.proofs.Filling.{Filled, left, broadcast, message, fill-row, fill-told, fill-flight, fill-long}
 use Rattle.event.proofs.Begun.{Started, as-before, starting, Begun, begun}
-use Rattle.event.proofs.Pending.{came-same, came-grown, pending-same}
+use Rattle.event.proofs.Pending.{came-same, came-grown, Same, pending-same, waiting-same}
 use Rattle.event.proofs.Stirring.{stir-either, stir-long, stir-told, stir-reaches}
 use Rattle.event.proofs.Loops.{beginning-from, next-parts}
 use Rattle.event.proofs.Attending.{Attended, attended, Served, no-node, a-node, served-one, event-same, Chosen, nobody, somebody, serves-chosen}
@@ -87,6 +88,19 @@ module _ (b : Board) (f : Fits b) (unmet : List ℕ) where
         comes-long = long;
       }
 
+  -- no message is listed then, and every node is looked at as the first event begins
+  pub queued-start : (u flight : ℕ) (run busy comes place passed noted wait waitend : List ℕ) → wait ≡ replicate 128 0 → waitend ≡ replicate 8 0 → Queued b unmet (moment u u flight u run busy comes place passed noted) wait waitend
+  queued-start u flight run busy comes place passed noted wait waitend p q =
+      record {
+        roomy =
+            record {
+              wait-long = ap length p ∙ length-replicate {A = ℕ} 128 0;
+              wait-small = λ j. omega (arith, ap (λ (xs : List ℕ). getD xs j 0) p, zeros-at 128 j);
+              ends-long = ap length q ∙ length-replicate {A = ℕ} 8 0;
+            };
+        waits = λ n l d e. absurd (d refl);
+      }
+
   -- one event
   module _ (m : Moment) (stirred due : List ℕ) (k : Kept b unmet m stirred due) where
     abbrev pend : ℕ → Bool
@@ -115,6 +129,30 @@ module _ (b : Board) (f : Fits b) (unmet : List ℕ) where
             own = λ n p j i l o lo hi lp hp q. sym (f .turn-own n j l lo hi .1) ∙ ap (λ (z : ℕ). getD (b .node) z 0) q ∙ f .turn-own p i o lp hp .1;
             ticks-one = f .ticks-one;
           }
+
+    -- the messages that wait, once the nodes are looked at
+    pub queued-now : (wait waitend wait₁ waitend₁ : List ℕ) → Queued b unmet m wait waitend → Attended-all (m .told) (m .u) (m .come) (b .slots) (m .busy) (b .queuefirst) (messages b unmet (m .comes) (m .u)) wait waitend wait₁ waitend₁ →
+        Roomy wait₁ waitend₁ × ((i : ℕ) → i < b .slots → Waiting (b .queuefirst) wait₁ waitend₁ i (messages b unmet (m .comes) (m .u) i))
+    queued-now wait waitend wait₁ waitend₁ h a = at (two (eqb (m .come) (m .u)))
+      where
+        at : (eqb (m .come) (m .u) ≡ true) ⊎ (eqb (m .come) (m .u) ≡ false) → Roomy wait₁ waitend₁ × ((i : ℕ) → i < b .slots → Waiting (b .queuefirst) wait₁ waitend₁ i (messages b unmet (m .comes) (m .u) i))
+        at (inl e) = let z = a .all (eqb-true _ _ e) in (z .roomy, λ i l. by i l (two (eqb (m .told) (m .u) || eqb (getD (m .busy) i 0) (m .u))))
+          where
+            by : (i : ℕ) → i < b .slots → ((eqb (m .told) (m .u) || eqb (getD (m .busy) i 0) (m .u)) ≡ true) ⊎ ((eqb (m .told) (m .u) || eqb (getD (m .busy) i 0) (m .u)) ≡ false) →
+                Waiting (b .queuefirst) wait₁ waitend₁ i (messages b unmet (m .comes) (m .u) i)
+            by i l (inl c) = a .all (eqb-true _ _ e) .looked i l c
+            by i l (inr c) =
+                let n = neither (eqb (m .told) (m .u)) (eqb (getD (m .busy) i 0) (m .u)) c in
+                a .all (eqb-true _ _ e) .kept i l (inr c) (messages b unmet (m .comes) (m .u) i) (h .waits i l (eqb-false _ _ (n .0)) (eqb-false _ _ (n .1)))
+        at (inr e) =
+            let d : m .come ≡ m .u → ⊥ = eqb-false _ _ e in
+            let q = a .none d in (
+              subst (λ (xs : List ℕ). Roomy xs waitend₁) (sym (q .0)) (subst (Roomy wait) (sym (q .1)) (h .roomy)),
+              λ i l.
+                  subst (λ (xs : List ℕ). Waiting (b .queuefirst) xs waitend₁ i (messages b unmet (m .comes) (m .u) i)) (sym (q .0))
+                  (subst (λ (xs : List ℕ). Waiting (b .queuefirst) wait xs i (messages b unmet (m .comes) (m .u) i)) (sym (q .1))
+                  (h .waits i l (λ z. d (k .stirred-over i l (told-now i l z))) (λ z. d (k .end-over i l z)))),
+            )
 
     -- what is looked at as the event begins
     module _ (due₁ : List ℕ) (attend-is : due₁ ≡ attend-by (m .told) (m .u) (waiting b unmet (m .comes) (m .u)) (m .busy) (b .round) (b .offset) (m .come) (b .slots) due) where
@@ -235,17 +273,23 @@ module _ (b : Board) (f : Fits b) (unmet : List ℕ) where
           came-rows : (r : ℕ) → came-by rows (m .u) r ≡ came-by (m .comes) (m .u) r
           came-rows r = came-grown (m .comes) rows (m .u) r (row-grown r)
 
-          pend-rows : (i : ℕ) → waiting b unmet rows (m .u) i ≡ waiting b unmet (m .comes) (m .u) i
-          unfolding waiting
-          pend-rows i =
-              pending-same (b .processes) (b .tell) (b .conditions) (b .decider) (b .node) (b .queuefirst) (b .queue) (b .from) (b .cue) unmet i (m .u) (m .u) (m .comes) rows
-              (record {
+          same-rows : (i : ℕ) → Same (b .processes) (b .tell) (b .conditions) (b .decider) (b .node) (b .queuefirst) (b .queue) (b .from) (b .cue) unmet i (m .u) (m .u) (m .comes) rows
+          same-rows i =
+              record {
                 sent = λ e w. placed-row (m .comes) rows (b .processes + e) (item-row (b .processes + e) (omega arith));
                 ended = λ e w. came-rows (getD (b .from) e 0);
                 known = λ e w. came-rows (getD (b .cue) e 0);
                 told = λ c o q. placed-row (m .comes) rows (b .tell + c) (item-row (b .tell + c) (omega (arith, f .rows-before)));
                 decided = λ c o q. came-rows (getD (b .decider) c 0);
-              })
+              }
+
+          pend-rows : (i : ℕ) → waiting b unmet rows (m .u) i ≡ waiting b unmet (m .comes) (m .u) i
+          unfolding waiting
+          pend-rows i = pending-same (b .processes) (b .tell) (b .conditions) (b .decider) (b .node) (b .queuefirst) (b .queue) (b .from) (b .cue) unmet i (m .u) (m .u) (m .comes) rows (same-rows i)
+
+          pub wait-rows : (i : ℕ) → messages b unmet rows (m .u) i ≡ messages b unmet (m .comes) (m .u) i
+          unfolding messages
+          wait-rows i = waiting-same (b .processes) (b .tell) (b .conditions) (b .decider) (b .node) (b .queuefirst) (b .queue) (b .from) (b .cue) unmet i (m .u) (m .u) (m .comes) rows (same-rows i)
 
           pub rows-room : b .tell + b .conditions ≤ length rows
           rows-room = omega (arith, g .rows-long, k .comes-long, f .few-rows, f .few-conditions)
@@ -295,6 +339,12 @@ module _ (b : Board) (f : Fits b) (unmet : List ℕ) where
           arrived : n < b .slots → {x : ℕ} → (x ≤ m .u) ⊎ (x ≡ m .flight) → x ≤ m .u
           arrived l (inl z) = z
           arrived l (inr z) = omega (arith, z, landed l)
+
+          pub rows-arrived : n < b .slots → (e : ℕ) → In e (edges-of n) → getD rows (b .processes + e) 0 ≤ m .u
+          rows-arrived l e w = omega (arith, item-row (b .processes + e) (omega arith), arrived l (k .items (b .processes + e) (omega arith)))
+
+          pub told-arrived : n < b .slots → m .told ≤ m .u
+          told-arrived l = arrived l (k .told-with)
 
           module _ (flight heard : ℕ) (comes place passed : List ℕ) (bus-is : bus flight heard comes place passed ≡ (if eqb n (b .slots) then before else filled)) where
             pub serves-is : bus flight heard comes place passed ≡ serves b unmet rows m
@@ -408,17 +458,25 @@ module _ (b : Board) (f : Fits b) (unmet : List ℕ) where
                 absurd (d (sym v ∙ ap (λ (v : ℕ). getD (b .node) (getD (b .decider) v 0) 0) y ∙ r))
             broadcast-stays i c d w v (sent o e p q z h t) = absurd (omega (arith, f .remote-row e (f .queue-own n e o p .2)))
 
-            pend-comes : (i : ℕ) → i < b .slots → (i ≡ n → ⊥) → waiting b unmet comes (m .u) i ≡ waiting b unmet (m .comes) (m .u) i
-            unfolding waiting
-            pend-comes i l d =
-                pending-same (b .processes) (b .tell) (b .conditions) (b .decider) (b .node) (b .queuefirst) (b .queue) (b .from) (b .cue) unmet i (m .u) (m .u) (m .comes) comes
-                (record {
+            same-comes : (i : ℕ) → i < b .slots → (i ≡ n → ⊥) → Same (b .processes) (b .tell) (b .conditions) (b .decider) (b .node) (b .queuefirst) (b .queue) (b .from) (b .cue) unmet i (m .u) (m .u) (m .comes) comes
+            same-comes i l d =
+                record {
                   sent = λ e w. placed-row (m .comes) comes (b .processes + e) (message-stays i e l d w (item (b .processes + e)));
                   ended = λ e w. came-comes (getD (b .from) e 0);
                   known = λ e w. came-comes (getD (b .cue) e 0);
                   told = λ c o q. placed-row (m .comes) comes (b .tell + c) (broadcast-stays i c d o q (item (b .tell + c)));
                   decided = λ c o q. came-comes (getD (b .decider) c 0);
-                })
+                }
+
+            pend-comes : (i : ℕ) → i < b .slots → (i ≡ n → ⊥) → waiting b unmet comes (m .u) i ≡ waiting b unmet (m .comes) (m .u) i
+            unfolding waiting
+            pend-comes i l d =
+                pending-same (b .processes) (b .tell) (b .conditions) (b .decider) (b .node) (b .queuefirst) (b .queue) (b .from) (b .cue) unmet i (m .u) (m .u) (m .comes) comes (same-comes i l d)
+
+            pub wait-comes : (i : ℕ) → i < b .slots → (i ≡ n → ⊥) → messages b unmet comes (m .u) i ≡ messages b unmet (m .comes) (m .u) i
+            unfolding messages
+            wait-comes i l d =
+                waiting-same (b .processes) (b .tell) (b .conditions) (b .decider) (b .node) (b .queuefirst) (b .queue) (b .from) (b .cue) unmet i (m .u) (m .u) (m .comes) comes (same-comes i l d)
 
             -- and what is kept goes on from there
             module _ (stirred₁ due₂ : List ℕ) (stirred-is : stirred₁ ≡ (if eqb n (b .slots) then stirred else stir-by (b .processes) (b .remote) comes end (b .slots) heard (edges-of n) stirred))
@@ -704,17 +762,23 @@ module _ (b : Board) (f : Fits b) (unmet : List ℕ) where
                     queue-cue e w (inl q) = let o = f .queue-own i e l w in own-cue e q (own-row rest (getD (b .from) e 0) (o .0) (o .1))
                     queue-cue e w (inr c) = told-cue e (c .0) (c .1) (c .2)
 
-                    waits-still : waiting b unmet comes u i ≡ waiting b unmet comes (m .u) i
-                    unfolding waiting
-                    waits-still =
-                        pending-same (b .processes) (b .tell) (b .conditions) (b .decider) (b .node) (b .queuefirst) (b .queue) (b .from) (b .cue) unmet i (m .u) u comes comes
-                        (record {
+                    same-still : Same (b .processes) (b .tell) (b .conditions) (b .decider) (b .node) (b .queuefirst) (b .queue) (b .from) (b .cue) unmet i (m .u) u comes comes
+                    same-still =
+                        record {
                           sent = λ e w. refl;
                           ended = λ e w. let o = f .queue-own i e l w in came-on (getD (b .from) e 0) (own-row rest (getD (b .from) e 0) (o .0) (o .1));
                           known = λ e w. came-on (getD (b .cue) e 0) (queue-cue e w (f .cues-known e));
                           told = λ c o q. refl;
                           decided = λ c o q. came-on (getD (b .decider) c 0) (own-row rest (getD (b .decider) c 0) (f .deciders-low c o) q);
-                        })
+                        }
+
+                    waits-still : waiting b unmet comes u i ≡ waiting b unmet comes (m .u) i
+                    unfolding waiting
+                    waits-still = pending-same (b .processes) (b .tell) (b .conditions) (b .decider) (b .node) (b .queuefirst) (b .queue) (b .from) (b .cue) unmet i (m .u) u comes comes same-still
+
+                    wait-still : messages b unmet comes u i ≡ messages b unmet comes (m .u) i
+                    unfolding messages
+                    wait-still = waiting-same (b .processes) (b .tell) (b .conditions) (b .decider) (b .node) (b .queuefirst) (b .queue) (b .from) (b .cue) unmet i (m .u) u comes comes same-still
 
                   -- nothing that its processes wait for comes
                   module _ (free : getD busy i 0 ≤ m .u) (calm : (getD stirred₁ i 0 ≤ m .u) ⊎ (u < getD stirred₁ i 0)) (j : ℕ) (lo : getD (b .turnfirst) i 0 ≤ j) (hi : j < getD (b .turnfirst) (i + 1) 0) where
@@ -852,6 +916,15 @@ module _ (b : Board) (f : Fits b) (unmet : List ℕ) where
                     flight-then : (flight ≡ m .flight) ⊎ ((n < b .slots) × (flight ≡ end)) → Past b u flight
                     flight-then (inl q) = subst (Past b u) (sym q) (past-later b (m .u) u (m .flight) (omega (arith, later)) (k .flight-past))
                     flight-then (inr q) = under-way n (m .u - 1) (q .0) (begins-n (q .0)) (omega (arith, later, k .from-one)) (omega (arith, q .1, k .from-one))
+
+                -- the messages that wait stand in their array at the next event
+                pub queued-next : (place passed noted wait waitend : List ℕ) → Roomy wait waitend → ((i : ℕ) → i < b .slots → Waiting (b .queuefirst) wait waitend i (messages b unmet comes (m .u) i)) →
+                    Queued b unmet (moment u come flight heard run busy comes place passed noted) wait waitend
+                queued-next place passed noted wait waitend r w =
+                    record {
+                      roomy = r;
+                      waits = λ i l d e. subst (Waiting (b .queuefirst) wait waitend i) (sym (wait-still i l (not-at d (late told-carried flight-ahead)) (not-at e (end-ahead i l)))) (w i l);
+                    }
 
                 -- what the event leaves is the next moment, and what is kept goes by it
                 pub event-on : (noted : List ℕ) → noted ≡ notes b unmet m →

@@ -1,4 +1,4 @@
--- Whether a node has an item pending is the same where the rows that it goes by are.
+-- Whether a node has an item pending, and which messages wait, is the same where the rows that it goes by are.
 -- Assumes nothing.
 use Prim.Native.Nat.{ℕ, _+_, _≤_, _<_}
 use mathlib.Core.Path.{_≡_, refl, sym, ap, _∙_}
@@ -9,8 +9,9 @@ use native.Mathlib.Omega.{arith}
 use lib.Dec.{eqb}
 use lib.ListN.{getD}
 use borrow.Author.Tests.{eqb-true, le-leb, lt-leb}
-use Rattle.lists.specs.Lists.{below}
+use Rattle.lists.specs.Lists.{below, keep}
 use Rattle.lists.proofs.Tests.{two, and-false}
+use Rattle.lists.proofs.Keep.{keep-same}
 use Rattle.lists.proofs.Members.{any-same, below-in}
 use Rattle.readiness.specs.Reading.{within, came-by, placed-by, part, message-by}
 use Rattle.packing.specs.Packing.{tells-by, waits-by, pending-by}
@@ -70,3 +71,6 @@ module _ (processes tell conditions : ℕ) (decider node queuefirst queue from c
         let a = any-same (waits-by processes from cue unmet comes′ u) (waits-by processes from cue unmet comes v) edges waits-same in
         let b = any-same (tells-by tell decider node comes′ n u) (tells-by tell decider node comes n v) (below conditions) tells-same in
         λ j. a j || b j
+
+    pub waiting-same : keep (waits-by processes from cue unmet comes′ u) edges ≡ keep (waits-by processes from cue unmet comes v) edges
+    waiting-same = keep-same (waits-by processes from cue unmet comes′ u) (waits-by processes from cue unmet comes v) edges waits-same

@@ -14,7 +14,7 @@ use Rattle.lists.specs.Lists.{if_then_else_}
 use Rattle.lists.proofs.Tests.{below-suc}
 use Rattle.starting.proofs.Ends.{set-there}
 use Rattle.packing.proofs.Rows.{set-either}
-use Rattle.serving.specs.Serving.{stir-all, stir-one, stir-each, stir-by}
+use Rattle.packing.specs.Packing.{stir-all, stir-one, stir-each, stir-by}
 
 -- every node is stirred
 all-either : (end n : ℕ) (s : List ℕ) (k : ℕ) → (getD (stir-all end n s) k 0 ≡ getD s k 0) ⊎ (getD (stir-all end n s) k 0 ≡ end)
@@ -110,38 +110,51 @@ module _ (processes : ℕ) (remote comes : List ℕ) (end : ℕ) where
       each-reaches es (one d s) e k m q t (omega (arith, one-long (getD comes (processes + d) 0) (getD remote d 0) end s))
 
   module _ (slots told : ℕ) (es s : List ℕ) where
+    -- what a broadcast stirs first
+    abbrev first : Bool → List ℕ
+    first b = if b then stir-all end slots s else s
+
+    first-either : (b : Bool) (k : ℕ) → (getD (first b) k 0 ≡ getD s k 0) ⊎ ((getD (first b) k 0 ≡ end) × (b ≡ true))
+    first-either false k = inl refl
+    first-either true k = at (all-either end slots s k)
+      where
+        at : (getD (stir-all end slots s) k 0 ≡ getD s k 0) ⊎ (getD (stir-all end slots s) k 0 ≡ end) → (getD (stir-all end slots s) k 0 ≡ getD s k 0) ⊎ ((getD (stir-all end slots s) k 0 ≡ end) × (true ≡ true))
+        at (inl q) = inl q
+        at (inr q) = inr (q, refl)
+
+    first-long : (b : Bool) → length (first b) ≡ length s
+    first-long true = all-long end slots s
+    first-long false = refl
+
     -- a node is stirred only where a broadcast or a message arrives
     pub stir-either : (k : ℕ) →
         (getD (stir-by processes remote comes end slots told es s) k 0 ≡ getD s k 0)
         ⊎ ((getD (stir-by processes remote comes end slots told es s) k 0 ≡ end) × ((told ≡ end) ⊎ ((e : ℕ) × In e es × (getD comes (processes + e) 0 ≡ end))))
     unfolding stir-by
-    stir-either k = at (eqb told end) refl (all-either end slots s k) (each-either es s k)
+    stir-either k = at (each-either es (first (eqb told end)) k) (first-either (eqb told end) k)
       where
-        at : (b : Bool) → eqb told end ≡ b → (getD (stir-all end slots s) k 0 ≡ getD s k 0) ⊎ (getD (stir-all end slots s) k 0 ≡ end) →
-            (getD (each es s) k 0 ≡ getD s k 0) ⊎ ((getD (each es s) k 0 ≡ end) × Arrived es) →
-            (getD (if b then stir-all end slots s else each es s) k 0 ≡ getD s k 0)
-            ⊎ ((getD (if b then stir-all end slots s else each es s) k 0 ≡ end) × ((told ≡ end) ⊎ Arrived es))
-        at true e (inl q) h = inl q
-        at true e (inr q) h = inr (q, inl (eqb-true told end e))
-        at false e q (inl h) = inl h
-        at false e q (inr h) = inr (h .0, inr (h .1))
+        at : (getD (each es (first (eqb told end))) k 0 ≡ getD (first (eqb told end)) k 0) ⊎ ((getD (each es (first (eqb told end))) k 0 ≡ end) × Arrived es) →
+            (getD (first (eqb told end)) k 0 ≡ getD s k 0) ⊎ ((getD (first (eqb told end)) k 0 ≡ end) × (eqb told end ≡ true)) →
+            (getD (each es (first (eqb told end))) k 0 ≡ getD s k 0) ⊎ ((getD (each es (first (eqb told end))) k 0 ≡ end) × ((told ≡ end) ⊎ Arrived es))
+        at (inr q) h = inr (q .0, inr (q .1))
+        at (inl q) (inl h) = inl (q ∙ h)
+        at (inl q) (inr h) = inr (q ∙ h .0, inl (eqb-true told end (h .1)))
 
     pub stir-long : length (stir-by processes remote comes end slots told es s) ≡ length s
     unfolding stir-by
-    stir-long = at (eqb told end)
-      where
-        at : (b : Bool) → length (if b then stir-all end slots s else each es s) ≡ length s
-        at true = all-long end slots s
-        at false = each-long es s
+    stir-long = each-long es (first (eqb told end)) ∙ first-long (eqb told end)
 
     pub stir-told : told ≡ end → slots ≤ length s → (k : ℕ) → k < slots → getD (stir-by processes remote comes end slots told es s) k 0 ≡ end
     unfolding stir-by
-    stir-told q n k l = rw (eq-eqb told end q) (all-reaches end slots s n k l)
+    stir-told q n k l = at (each-either es (first (eqb told end)) k)
+      where
+        now : getD (first (eqb told end)) k 0 ≡ end
+        now = ap (λ (b : Bool). getD (first b) k 0) (eq-eqb told end q) ∙ all-reaches end slots s n k l
+
+        at : (getD (each es (first (eqb told end))) k 0 ≡ getD (first (eqb told end)) k 0) ⊎ ((getD (each es (first (eqb told end))) k 0 ≡ end) × Arrived es) → getD (each es (first (eqb told end))) k 0 ≡ end
+        at (inl h) = h ∙ now
+        at (inr h) = h .0
 
     pub stir-reaches : slots ≤ length s → (e k : ℕ) → In e es → getD comes (processes + e) 0 ≡ end → getD remote e 0 ≡ suc k → k < slots → getD (stir-by processes remote comes end slots told es s) k 0 ≡ end
     unfolding stir-by
-    stir-reaches n e k m q t l = at (eqb told end)
-      where
-        at : (b : Bool) → getD (if b then stir-all end slots s else each es s) k 0 ≡ end
-        at true = all-reaches end slots s n k l
-        at false = each-reaches es s e k m q t (omega arith)
+    stir-reaches n e k m q t l = each-reaches es (first (eqb told end)) e k m q t (omega (arith, first-long (eqb told end)))

@@ -4,16 +4,16 @@
 use Prim.Native.Nat.{ℕ, zero, suc, _+_, _-_, _*_, _≤_, _<_}
 use mathlib.Core.Path.{_≡_}
 use mathlib.Core.Logic.{_⊎_}
-use mathlib.Core.Bool.{Bool, true}
+use mathlib.Core.Bool.{Bool, true, false}
 use mathlib.Core.List.{List, [], _∷_, List·Memᴰ as In}
 use lib.Dec.{eqb, leb, ltb}
 use lib.ListN.{getD, replicate}
 use lib.Seq.{sets}
-use Rattle.lists.specs.Lists.{if_then_else_, below}
+use Rattle.lists.specs.Lists.{if_then_else_, below, repeated}
 use Rattle.readiness.specs.Reading.{part, edges-into, may-run-by, Within}
 use Rattle.timetable.specs.Bus.{beginning-at}
 use Rattle.starting.specs.Starting.{Ends, starts-by}
-use Rattle.serving.specs.Serving.{no-event, Bus, bus, pending-in, fill-by}
+use Rattle.serving.specs.Serving.{no-event, Bus, bus, waiting-in, pending-in, fill-by}
 use Rattle.board.specs.declared.Board.{Board}
 
 -- the last clock at which an event is looked at: no delay reaches it
@@ -120,6 +120,10 @@ module _ (b : Board) (unmet : List ℕ) where
   unfoldable pub waiting : List ℕ → ℕ → ℕ → Bool
   waiting comes u n = pending-in (b .processes) (b .tell) (b .conditions) (b .decider) (b .node) (b .queuefirst) (b .queue) (b .from) (b .cue) unmet comes u n
 
+  -- the messages of node n that wait
+  unfoldable pub messages : List ℕ → ℕ → ℕ → List ℕ
+  messages comes u n = waiting-in (b .processes) (b .tell) (b .conditions) (b .decider) (b .node) (b .queuefirst) (b .queue) (b .from) (b .cue) unmet comes u n
+
   unfoldable pub notes : Moment → List ℕ
   notes m = note-by (m .told) (m .u) (m .comes) (b .tell) (m .passed) (b .conditions) (m .noted)
 
@@ -193,6 +197,8 @@ pub record Fits (b : Board) : Type 0 where
       (getD (b .from) e 0 < b .processes) × (getD (b .node) (getD (b .from) e 0) 0 ≡ n) × (1 ≤ getD (b .remote) e 0)
   pub into-own : (i e : ℕ) → i < b .processes → In e (edges-into (b .intofirst) (b .into) i) →
       (getD (b .from) e 0 < b .processes) × (getD (b .remote) e 0 ≡ 0 → getD (b .node) (getD (b .from) e 0) 0 ≡ getD (b .node) i 0) × ((n : ℕ) → getD (b .remote) e 0 ≡ suc n → getD (b .node) i 0 ≡ n)
+  pub queue-rising : (n : ℕ) → n < b .slots → getD (b .queuefirst) n 0 ≤ getD (b .queuefirst) (n + 1) 0
+  pub queue-once : (n : ℕ) → n < b .slots → repeated (part (b .queue) (getD (b .queuefirst) n 0) (getD (b .queuefirst) (n + 1) 0)) ≡ false
   pub remote-most : (e : ℕ) → getD (b .remote) e 0 ≤ 8
   pub bytes-one : (e : ℕ) → 1 ≤ getD (b .remote) e 0 → 1 ≤ getD (b .bytes) e 0
   pub remote-row : (e : ℕ) → 1 ≤ getD (b .remote) e 0 → b .processes + e < b .tell

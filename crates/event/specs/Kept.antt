@@ -11,8 +11,8 @@ use lib.ListN.{length, getD}
 use Rattle.lists.specs.Lists.{if_then_else_}
 use Rattle.starting.specs.Quiet.{Idle}
 use Rattle.board.specs.declared.Board.{Board}
-use Rattle.serving.specs.Serving.{no-event, due-from}
-use Rattle.event.specs.Course.{Moment, begins-by, sooner-by, come-by, waiting}
+use Rattle.serving.specs.Serving.{no-event, due-from, Waiting, Roomy}
+use Rattle.event.specs.Course.{Moment, begins-by, sooner-by, come-by, waiting, messages}
 
 -- the node below n whose slot takes an item at the clock, or the number of slots
 unfoldable pub served-by : List ℕ → ℕ → ℕ → ℕ → ℕ
@@ -64,6 +64,11 @@ pub record Kept (b : Board) (unmet : List ℕ) (m : Moment) (stirred due : List 
   pub stirred-long : length stirred ≡ 8
   pub due-long : length due ≡ 8
   pub comes-long : length (m .comes) ≡ 198
+
+-- The messages that wait stand in their array where planning stands at an event: those of a node for which neither a broadcast arrives nor a process ends at this event.
+pub record Queued (b : Board) (unmet : List ℕ) (m : Moment) (wait waitend : List ℕ) : Type 0 where
+  pub roomy : Roomy wait waitend
+  pub waits : (n : ℕ) → n < b .slots → (m .told ≡ m .u → ⊥) → (getD (m .busy) n 0 ≡ m .u → ⊥) → Waiting (b .queuefirst) wait waitend n (messages b unmet (m .comes) (m .u) n)
 
 -- What planning may begin from at a clock: an edge that is not met goes by a condition; `busy` has the ends of the nodes' last processes, and of the processes
 -- of a node only the last may end after the clock; no item is under way.

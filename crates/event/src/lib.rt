@@ -13,7 +13,7 @@ ghost use Rattle.lists.specs.Lists.{if_then_else_};
 ghost use Rattle.readiness.specs.Reading.{Within};
 ghost use Rattle.starting.specs.Quiet.{Quiet};
 ghost use Rattle.event.specs.Course.{moment, notes-below, note-by, heard-by, begun-by, sooner-by, come-by, next, Fits, board-of};
-ghost use Rattle.event.specs.Kept.{served-by, come-now, event-now, Kept};
+ghost use Rattle.event.specs.Kept.{served-by, come-now, event-now, Kept, Queued};
 
 // Stores the counts of the nodes, from place `at` on.
 fn put_counts(passed: &[u32; 8], at: usize, noted: &mut [u32; 48])
@@ -240,7 +240,7 @@ pub struct Clocks {
 // One event, at clock u: values that arrive are heard, nodes start, and the slot that begins takes its items. The answer says when the next event is. `come`
 // is the clock at which a row is next over; `run` says which processes may run, `busy` by node when its last process ends, `comes` and `place` by row when it
 // is over and its place, `passed` by node in how many slots a ready item was not taken, `noted` by condition and node the same when the condition's value
-// became known; `stirred` and `due` are what is kept by node.
+// became known; `stirred` and `due` are what is kept by node, and `wait` has the messages that wait at node n from place queuefirst[n] up to place waitend[n].
 pub fn event<'a>(
     processes: usize,
     tell: usize,
@@ -277,10 +277,13 @@ pub fn event<'a>(
     noted: &mut [u32; 48],
     stirred: &mut [u32; 8],
     due: &mut [u32; 8],
+    wait: &mut [u32; 128],
+    waitend: &mut [u32; 8],
 ) -> Clocks
-    requires { ⌜ Fits (board-of processes tell conditions slots (now node) (now ticks) (now several) (now from) (now cue) (now remote) (now bytes) (now decider) (now intofirst) (now into) (now turnfirst) (now turn) (now queuefirst) (now queue) round (now offset) (now lasts) (now rooms)) × Kept (board-of processes tell conditions slots (now node) (now ticks) (now several) (now from) (now cue) (now remote) (now bytes) (now decider) (now intofirst) (now into) (now turnfirst) (now turn) (now queuefirst) (now queue) round (now offset) (now lasts) (now rooms)) (now unmet) (moment u come flight told (now run) (now busy) (now comes) (now place) (now passed) (now noted)) (now stirred) (now due) × (u ≤ 1000000000) × ((k : ℕ) → getD (now passed) k 0 ≤ u) × (length (now passed) ≡ 8) ⌝ }
+    requires { ⌜ Fits (board-of processes tell conditions slots (now node) (now ticks) (now several) (now from) (now cue) (now remote) (now bytes) (now decider) (now intofirst) (now into) (now turnfirst) (now turn) (now queuefirst) (now queue) round (now offset) (now lasts) (now rooms)) × Kept (board-of processes tell conditions slots (now node) (now ticks) (now several) (now from) (now cue) (now remote) (now bytes) (now decider) (now intofirst) (now into) (now turnfirst) (now turn) (now queuefirst) (now queue) round (now offset) (now lasts) (now rooms)) (now unmet) (moment u come flight told (now run) (now busy) (now comes) (now place) (now passed) (now noted)) (now stirred) (now due) × (u ≤ 1000000000) × ((k : ℕ) → getD (now passed) k 0 ≤ u) × (length (now passed) ≡ 8) × Queued (board-of processes tell conditions slots (now node) (now ticks) (now several) (now from) (now cue) (now remote) (now bytes) (now decider) (now intofirst) (now into) (now turnfirst) (now turn) (now queuefirst) (now queue) round (now offset) (now lasts) (now rooms)) (now unmet) (moment u come flight told (now run) (now busy) (now comes) (now place) (now passed) (now noted)) (now wait) (now waitend) ⌝ }
     ensures event { λ r. ⌜ (moment (r .u) (r .come) (r .flight) (r .told) (now (run .exit)) (now (busy .exit)) (now (comes .exit)) (now (place .exit)) (now (passed .exit)) (now (noted .exit))) ≡ next (board-of processes tell conditions slots (now (node .entry)) (now (ticks .entry)) (now (several .entry)) (now (from .entry)) (now (cue .entry)) (now (remote .entry)) (now (bytes .entry)) (now (decider .entry)) (now (intofirst .entry)) (now (into .entry)) (now (turnfirst .entry)) (now (turn .entry)) (now (queuefirst .entry)) (now (queue .entry)) round (now (offset .entry)) (now (lasts .entry)) (now (rooms .entry))) (now (unmet .entry)) (moment u come flight told (now (run .entry)) (now (busy .entry)) (now (comes .entry)) (now (place .entry)) (now (passed .entry)) (now (noted .entry))) ⌝ }
     ensures kept { λ r. ⌜ Kept (board-of processes tell conditions slots (now (node .entry)) (now (ticks .entry)) (now (several .entry)) (now (from .entry)) (now (cue .entry)) (now (remote .entry)) (now (bytes .entry)) (now (decider .entry)) (now (intofirst .entry)) (now (into .entry)) (now (turnfirst .entry)) (now (turn .entry)) (now (queuefirst .entry)) (now (queue .entry)) round (now (offset .entry)) (now (lasts .entry)) (now (rooms .entry))) (now (unmet .entry)) (moment (r .u) (r .come) (r .flight) (r .told) (now (run .exit)) (now (busy .exit)) (now (comes .exit)) (now (place .exit)) (now (passed .exit)) (now (noted .exit))) (now (stirred .exit)) (now (due .exit)) ⌝ }
+    ensures queued { λ r. ⌜ Queued (board-of processes tell conditions slots (now (node .entry)) (now (ticks .entry)) (now (several .entry)) (now (from .entry)) (now (cue .entry)) (now (remote .entry)) (now (bytes .entry)) (now (decider .entry)) (now (intofirst .entry)) (now (into .entry)) (now (turnfirst .entry)) (now (turn .entry)) (now (queuefirst .entry)) (now (queue .entry)) round (now (offset .entry)) (now (lasts .entry)) (now (rooms .entry))) (now (unmet .entry)) (moment (r .u) (r .come) (r .flight) (r .told) (now (run .exit)) (now (busy .exit)) (now (comes .exit)) (now (place .exit)) (now (passed .exit)) (now (noted .exit))) (now (wait .exit)) (now (waitend .exit)) ⌝ }
 {
     note(told, u, tell, conditions, comes, passed, noted);
     heard(
@@ -316,6 +319,8 @@ pub fn event<'a>(
         told,
         u,
         due,
+        wait,
+        waitend,
     );
     begin(
         come,
@@ -346,10 +351,6 @@ pub fn event<'a>(
         decider,
         node,
         queuefirst,
-        queue,
-        from,
-        cue,
-        unmet,
         remote,
         bytes,
         round,
@@ -365,6 +366,8 @@ pub fn event<'a>(
         passed,
         stirred,
         due,
+        wait,
+        waitend,
     );
     let over = come_after(busy, slots, s.flight, come, u);
     let next = next_event(due, over);

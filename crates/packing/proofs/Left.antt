@@ -4,20 +4,21 @@ use mathlib.Core.Path.{_≡_, refl, sym, ap, _∙_, subst}
 use mathlib.Core.Logic.{_⊎_, inl, inr}
 use mathlib.Core.Bool.{Bool, true, false, not, _&&_, _||_}
 use mathlib.Core.List.{List, [], _∷_, List·Memᴰ as In, List·Memᴰ·head as here, List·Memᴰ·tail as there}
-use Prim.Native.Nat.{ℕ, zero, suc, _+_, _≤_, _<_}
+use Prim.Native.Nat.{ℕ, zero, suc, _+_, _-_, _≤_, _<_}
 use native.Mathlib.Omega.{arith}
 use lib.Dec.{eqb, leb, ltb}
 use lib.ListN.{length, getD, set, length-set}
 use lib.Seq.{getD-set-same, getD-set-other}
-use borrow.Author.Tests.{eqb-true, eqb-false, ne-eqb, ltb-true, ltb-false, leb-true, lt-ltb, le-ltb, le-leb}
+use borrow.Author.Tests.{eqb-true, eqb-false, eq-eqb, ne-eqb, ltb-true, ltb-false, leb-true, lt-ltb, le-ltb, le-leb}
 use Rattle.lists.specs.Lists.{if_then_else_, any, keep, below, repeated}
 use Rattle.lists.proofs.Tests.{two, both, clash, and-false, or-false, or-right}
 use Rattle.lists.proofs.Members.{any-same, keep-in, below-in}
+use Rattle.lists.proofs.Keep.{keep-same}
 use Rattle.lists.proofs.Different.{keep-different, different-parts, different-upfrom}
 use Rattle.mask.specs.Masks.{members, mask-from}
 use Rattle.mask.proofs.Built.{built-members}
 use Rattle.readiness.specs.Reading.{came-by, placed-by, part, message-by}
-use Rattle.packing.specs.Packing.{Load, load, tells-by, waits-by, pending-by, laid, passed, tried, tell-all, all-told, try-send, send-all, tells-sent, send-by}
+use Rattle.packing.specs.Packing.{Load, load, tells-by, waits-by, pending-by, laid, passed, tried, tell-all, all-told, try-send, send-all, try-one, take-all, left-of, stir-taken, stir-one, stir-each, tells-sent, send-by}
 use Rattle.packing.proofs.Rows.{set-either, came-kept}
 
 again : (b : Bool) → not (not b) ≡ true → b ≡ true
@@ -247,6 +248,141 @@ module _ (u end : ℕ) (late : u < end) where
     all-apart [] s r d = refl
     all-apart (e ∷ es) s r d = all-apart es (one e s) r (λ x m. d x (there m)) ∙ step-apart e s (one e s) r (d e (here refl)) (step e s)
 
+    -- a message that waits and one that does not, among those that wait
+    abbrev waiting : List ℕ → List ℕ → List ℕ
+    waiting comes es = keep (waits comes) es
+
+    waiting-yes : (comes : List ℕ) (e : ℕ) (es : List ℕ) → waits comes e ≡ true → waiting comes (e ∷ es) ≡ e ∷ waiting comes es
+    waiting-yes comes e es w = ap (λ (b : Bool). if b then (e ∷ waiting comes es) else waiting comes es) w
+
+    waiting-no : (comes : List ℕ) (e : ℕ) (es : List ℕ) → waits comes e ≡ false → waiting comes (e ∷ es) ≡ waiting comes es
+    waiting-no comes e es w = ap (λ (b : Bool). if b then (e ∷ waiting comes es) else waiting comes es) w
+
+    -- one that is tried leaves the tests of the others
+    waiting-on : (e : ℕ) (es : List ℕ) (s : Load) → (In e es → ⊥) → waiting (one e s .comes) es ≡ waiting (s .comes) es
+    waiting-on e es s n =
+        keep-same (waits (one e s .comes)) (waits (s .comes)) es
+        (λ d m. waits-stay (s .comes) (one e s .comes) (step-grown e s (one e s) (step e s)) d (step-apart e s (one e s) (processes + d) (λ q. n (subst (λ (x : ℕ). In x es) (omega arith) m)) (step e s)))
+
+    -- one that waits is tried as those that wait are
+    tried-one : (e : ℕ) (s : Load) → waits (s .comes) e ≡ true → one e s ≡ try-one processes bytes room end e s
+    unfolding try-send
+    tried-one e s w = ap (λ (b : Bool). if b then tried room end (processes + e) (getD bytes e 0) s else s) w
+
+    -- what is not taken stays where it stood, and what is taken arrives at the slot's end
+    row-after : (e : ℕ) (es : List ℕ) (s : Load) → (In e es → ⊥) → getD (all (e ∷ es) s .comes) (processes + e) 0 ≡ getD (one e s .comes) (processes + e) 0
+    unfolding send-all
+    row-after e es s n = all-apart es (one e s) (processes + e) (λ d m q. n (subst (λ (x : ℕ). In x es) (omega arith) m))
+
+    abbrev Low : List ℕ → Load → Type 0
+    Low es s = (e : ℕ) → In e es → processes + e < length (s .comes)
+
+    low-on : (e : ℕ) (es : List ℕ) (s : Load) → Low (e ∷ es) s → Low es (one e s)
+    low-on e es s low d m = omega (arith, low d (there m), step-long e s (one e s) (step e s))
+
+    -- the messages that waited, tried one after another, are what the slot takes
+    pub send-taken : (es : List ℕ) (s : Load) → repeated es ≡ false →
+        send-all processes from cue unmet bytes room u end es s ≡ take-all processes bytes room end (keep (λ e. waits-by processes from cue unmet (s .comes) u e) es) s
+    unfolding send-all take-all
+    send-taken [] s d = refl
+    send-taken (e ∷ es) s d = send-taken es (one e s) (n .1) ∙ ap (λ (ws : List ℕ). take-all processes bytes room end ws (one e s)) (waiting-on e es s (n .0)) ∙ at (two (waits (s .comes) e)) (step e s)
+      where
+        n : (In e es → ⊥) × (repeated es ≡ false)
+        n = different-parts e es d
+
+        at : (waits (s .comes) e ≡ true) ⊎ (waits (s .comes) e ≡ false) → Step e s (one e s) →
+            take-all processes bytes room end (waiting (s .comes) es) (one e s) ≡ take-all processes bytes room end (waiting (s .comes) (e ∷ es)) s
+        at (inl w) t = ap (take-all processes bytes room end (waiting (s .comes) es)) (tried-one e s w) ∙ ap (λ (ws : List ℕ). take-all processes bytes room end ws s) (sym (waiting-yes (s .comes) e es w))
+        at (inr w) (skip v q) = ap (take-all processes bytes room end (waiting (s .comes) es)) q ∙ ap (λ (ws : List ℕ). take-all processes bytes room end ws s) (sym (waiting-no (s .comes) e es w))
+        at (inr w) (take v f q) = clash v w
+        at (inr w) (pass v f q) = clash v w
+
+    -- those that still wait are those that were not taken
+    pub send-waiting : (es : List ℕ) (s : Load) → repeated es ≡ false → ((e : ℕ) → In e es → processes + e < length (s .comes)) →
+        keep (λ e. waits-by processes from cue unmet (send-all processes from cue unmet bytes room u end es s .comes) u e) es
+        ≡ left-of processes bytes room end (keep (λ e. waits-by processes from cue unmet (s .comes) u e) es) s
+    unfolding send-all left-of
+    send-waiting [] s d low = refl
+    send-waiting (e ∷ es) s d low = at (step e s) (on (send-waiting es (one e s) (different-parts e es d .1) (low-on e es s low)))
+      where
+        n : (In e es → ⊥) × (repeated es ≡ false)
+        n = different-parts e es d
+
+        last : List ℕ
+        last = all es (one e s) .comes
+
+        left : List ℕ → Load → List ℕ
+        left = left-of processes bytes room end
+
+        on : waiting last es ≡ left (waiting (one e s .comes) es) (one e s) → waiting last es ≡ left (waiting (s .comes) es) (one e s)
+        on h = h ∙ ap (λ (ws : List ℕ). left ws (one e s)) (waiting-on e es s (n .0))
+
+        gone : waits (one e s .comes) e ≡ false → waits last e ≡ false
+        gone = waits-gone (one e s .comes) last (all-grown es (one e s)) e
+
+        choice : Bool → List ℕ
+        choice b = if b then left (waiting (s .comes) es) (try-one processes bytes room end e s) else (e ∷ left (waiting (s .comes) es) (try-one processes bytes room end e s))
+
+        at : Step e s (one e s) → waiting last es ≡ left (waiting (s .comes) es) (one e s) → waiting last (e ∷ es) ≡ left (waiting (s .comes) (e ∷ es)) s
+        at (skip w q) h =
+            waiting-no last e es (gone (ap (λ (z : Load). waits (z .comes) e) q ∙ w)) ∙ h ∙ ap (left (waiting (s .comes) es)) q ∙ ap (λ (ws : List ℕ). left ws s) (sym (waiting-no (s .comes) e es w))
+        at (take w f q) h =
+            waiting-no last e es
+            (gone (waits-placed (one e s .comes) e (placed-now (one e s .comes) (processes + e) (λ z. absurd (omega (arith, z, ap (λ (t : Load). getD (t .comes) (processes + e) 0) q ∙ laid-there e s (low e (here refl)), late))))))
+            ∙ h ∙ ap (left (waiting (s .comes) es)) (tried-one e s w) ∙ sym (ap choice f) ∙ ap (λ (ws : List ℕ). left ws s) (sym (waiting-yes (s .comes) e es w))
+        at (pass w f q) h =
+            waiting-yes last e es
+            (waits-stay (s .comes) last (all-grown (e ∷ es) s) e (all-other es e (one e s) (unfit e s (one e s) (step-used e s (one e s) (step e s)) f) ∙ step-other e e s (one e s) f (step e s)) ∙ w)
+            ∙ ap (λ (xs : List ℕ). e ∷ xs) (h ∙ ap (left (waiting (s .comes) es)) (tried-one e s w)) ∙ sym (ap choice f) ∙ ap (λ (ws : List ℕ). left ws s) (sym (waiting-yes (s .comes) e es w))
+
+    -- the receivers of what arrives at the slot's end are those of the messages that are taken, where no message arrives then as the slot begins
+    pub send-stirs : (remote es : List ℕ) (s : Load) (stirred : List ℕ) → repeated es ≡ false → ((e : ℕ) → In e es → processes + e < length (s .comes)) → ((e : ℕ) → In e es → getD (s .comes) (processes + e) 0 ≤ u) →
+        stir-each processes remote (send-all processes from cue unmet bytes room u end es s .comes) end es stirred
+        ≡ stir-taken processes bytes room end remote (keep (λ e. waits-by processes from cue unmet (s .comes) u e) es) s stirred
+    unfolding send-all stir-each stir-one stir-taken
+    send-stirs remote [] s stirred d low early = refl
+    send-stirs remote (e ∷ es) s stirred d low early =
+        at (step e s) (λ st. send-stirs remote es (one e s) st (different-parts e es d .1) (low-on e es s low) early-on ∙ ap (λ (ws : List ℕ). stir-taken processes bytes room end remote ws (one e s) st) (waiting-on e es s (different-parts e es d .0)))
+      where
+        n : (In e es → ⊥) × (repeated es ≡ false)
+        n = different-parts e es d
+
+        last : List ℕ
+        last = all es (one e s) .comes
+
+        each : List ℕ → List ℕ
+        each = stir-each processes remote last end es
+
+        taken : List ℕ → Load → List ℕ → List ℕ
+        taken = stir-taken processes bytes room end remote
+
+        early-on : (d : ℕ) → In d es → getD (one e s .comes) (processes + d) 0 ≤ u
+        early-on d m = omega (arith, early d (there m), step-apart e s (one e s) (processes + d) (λ q. n .0 (subst (λ (x : ℕ). In x es) (omega arith) m)) (step e s))
+
+        row : getD last (processes + e) 0 ≡ getD (one e s .comes) (processes + e) 0
+        row = row-after e es s (n .0)
+
+        stir : Bool → List ℕ
+        stir b = if b then set stirred (getD remote e 0 - 1) end else stirred
+
+        choice : Bool → List ℕ
+        choice b = taken (waiting (s .comes) es) (try-one processes bytes room end e s) (if b then set stirred (getD remote e 0 - 1) end else stirred)
+
+        still : getD last (processes + e) 0 ≡ getD (s .comes) (processes + e) 0 → stir (eqb (getD last (processes + e) 0) end) ≡ stirred
+        still q = ap stir (ne-eqb (getD last (processes + e) 0) end (λ z. absurd (omega (arith, z, q, early e (here refl), late))))
+
+        at : Step e s (one e s) → ((st : List ℕ) → each st ≡ taken (waiting (s .comes) es) (one e s) st) → each (stir (eqb (getD last (processes + e) 0) end)) ≡ taken (waiting (s .comes) (e ∷ es)) s stirred
+        at (skip w q) on =
+            ap each (still (row ∙ ap (λ (t : Load). getD (t .comes) (processes + e) 0) q)) ∙ on stirred ∙ ap (λ (t : Load). taken (waiting (s .comes) es) t stirred) q
+            ∙ ap (λ (ws : List ℕ). taken ws s stirred) (sym (waiting-no (s .comes) e es w))
+        at (take w f q) on =
+            ap each (ap stir (eq-eqb (getD last (processes + e) 0) end (row ∙ ap (λ (t : Load). getD (t .comes) (processes + e) 0) q ∙ laid-there e s (low e (here refl)))))
+            ∙ on (set stirred (getD remote e 0 - 1) end) ∙ ap (λ (t : Load). taken (waiting (s .comes) es) t (set stirred (getD remote e 0 - 1) end)) (tried-one e s w) ∙ sym (ap choice f)
+            ∙ ap (λ (ws : List ℕ). taken ws s stirred) (sym (waiting-yes (s .comes) e es w))
+        at (pass w f q) on =
+            ap each (still (row ∙ step-other e e s (one e s) f (step e s))) ∙ on stirred ∙ ap (λ (t : Load). taken (waiting (s .comes) es) t stirred) (tried-one e s w) ∙ sym (ap choice f)
+            ∙ ap (λ (ws : List ℕ). taken ws s stirred) (sym (waiting-yes (s .comes) e es w))
+
   -- broadcasts
   module _ (tell : ℕ) (decider node : List ℕ) (n : ℕ) where
     abbrev tells : List ℕ → ℕ → Bool
@@ -302,6 +438,13 @@ module _ (u end : ℕ) (late : u < end) where
     tell-long zero (k ∷ ks) s = refl
     tell-long (suc r) (k ∷ ks) s = tell-long r ks (laid end (tell + k) 1 s) ∙ length-set (s .comes) (tell + k) end
 
+    -- rows of no broadcast stay
+    tell-apart : (r : ℕ) (ks : List ℕ) (s : Load) (q : ℕ) → ((k : ℕ) → In k ks → q ≡ tell + k → ⊥) → getD (tell-all tell end r ks s .comes) q 0 ≡ getD (s .comes) q 0
+    unfolding tell-all laid
+    tell-apart r [] s q d = refl
+    tell-apart zero (k ∷ ks) s q d = refl
+    tell-apart (suc r) (k ∷ ks) s q d = tell-apart r ks (laid end (tell + k) 1 s) q (λ j m. d j (there m)) ∙ getD-set-other (s .comes) (tell + k) q end 0 (d k (here refl))
+
     more : (r l : ℕ) → ltb (suc r) (suc l) ≡ ltb r l
     more r l = at (two (ltb r l))
       where
@@ -355,6 +498,70 @@ module _ (processes tell conditions : ℕ) (decider node queue from cue unmet by
     (rows : (e : ℕ) → In e (part queue a b) → processes + e < tell) (long : tell + conditions ≤ length comes) where
   abbrev ready : ℕ → Bool
   ready k = tells-by tell decider node comes n u k
+
+  -- the broadcasts leave the messages that wait
+  tells-waiting : keep (waits-by processes from cue unmet (tells-sent tell conditions decider node n room u end comes place .comes) u) (part queue a b) ≡ keep (waits-by processes from cue unmet comes u) (part queue a b)
+  unfolding tells-sent all-told
+  tells-waiting =
+      keep-same (waits u end late processes from cue unmet bytes room (first .comes)) (waits u end late processes from cue unmet bytes room comes) (part queue a b)
+      (λ e m.
+      waits-stay u end late processes from cue unmet bytes room comes (first .comes) (tell-grown u end late tell decider node n room ks start apart (λ k w. member k w .1)) e
+      (tell-apart u end late tell decider node n room ks start (processes + e) (λ k w q. absurd (omega (arith, rows e m)))))
+    where
+      ks : List ℕ
+      ks = members (mask-from ready 0 conditions)
+
+      ks-is : ks ≡ keep ready (below conditions)
+      ks-is = built-members ready conditions few
+
+      start : Load
+      start = load 0 (ltb room (length ks)) comes place
+
+      first : Load
+      first = tell-all tell end room ks start
+
+      apart : repeated ks ≡ false
+      apart = ap repeated ks-is ∙ keep-different ready (below conditions) (different-upfrom 0 conditions)
+
+      member : (k : ℕ) → In k ks → In k (below conditions) × (ready k ≡ true)
+      member k m = keep-in ready (below conditions) (subst (λ (xs : List ℕ). In k xs) ks-is m)
+
+  tells-long : length (tells-sent tell conditions decider node n room u end comes place .comes) ≡ length comes
+  unfolding tells-sent all-told
+  tells-long =
+      tell-long u end late tell decider node n room (members (mask-from ready 0 conditions)) (load 0 (ltb room (length (members (mask-from ready 0 conditions)))) comes place)
+
+  tells-apart : (e : ℕ) → In e (part queue a b) → getD (tells-sent tell conditions decider node n room u end comes place .comes) (processes + e) 0 ≡ getD comes (processes + e) 0
+  unfolding tells-sent all-told
+  tells-apart e m =
+      tell-apart u end late tell decider node n room (members (mask-from ready 0 conditions)) (load 0 (ltb room (length (members (mask-from ready 0 conditions)))) comes place) (processes + e)
+      (λ k w q. absurd (omega (arith, rows e m)))
+
+  -- what the slot takes, what still waits after it and whom it stirs, by the messages that wait as it begins
+  module _ (once : repeated (part queue a b) ≡ false) where
+    abbrev start-of : Load
+    start-of = tells-sent tell conditions decider node n room u end comes place
+
+    low-rows : (e : ℕ) → In e (part queue a b) → processes + e < length (start-of .comes)
+    low-rows e m = omega (arith, rows e m, long, tells-long)
+
+    pub taken-by : send-by processes tell conditions decider node queue from cue unmet bytes n a b room u end comes place
+        ≡ take-all processes bytes room end (keep (waits-by processes from cue unmet comes u) (part queue a b)) (tells-sent tell conditions decider node n room u end comes place)
+    unfolding send-by
+    taken-by = send-taken u end late processes from cue unmet bytes room (part queue a b) start-of once ∙ ap (λ (ws : List ℕ). take-all processes bytes room end ws start-of) tells-waiting
+
+    pub waiting-by : keep (waits-by processes from cue unmet (send-by processes tell conditions decider node queue from cue unmet bytes n a b room u end comes place .comes) u) (part queue a b)
+        ≡ left-of processes bytes room end (keep (waits-by processes from cue unmet comes u) (part queue a b)) (tells-sent tell conditions decider node n room u end comes place)
+    unfolding send-by
+    waiting-by = send-waiting u end late processes from cue unmet bytes room (part queue a b) start-of once low-rows ∙ ap (λ (ws : List ℕ). left-of processes bytes room end ws start-of) tells-waiting
+
+    pub stirs-by : (remote stirred : List ℕ) → ((e : ℕ) → In e (part queue a b) → getD comes (processes + e) 0 ≤ u) →
+        stir-each processes remote (send-by processes tell conditions decider node queue from cue unmet bytes n a b room u end comes place .comes) end (part queue a b) stirred
+        ≡ stir-taken processes bytes room end remote (keep (waits-by processes from cue unmet comes u) (part queue a b)) (tells-sent tell conditions decider node n room u end comes place) stirred
+    unfolding send-by
+    stirs-by remote stirred early =
+        send-stirs u end late processes from cue unmet bytes room remote (part queue a b) start-of stirred once low-rows (λ e m. omega (arith, early e m, tells-apart e m))
+        ∙ ap (λ (ws : List ℕ). stir-taken processes bytes room end remote ws start-of stirred) tells-waiting
 
   -- the node has an item pending after its slot just where the slot left one
   pub left-pending : pending-by processes tell conditions decider node queue from cue unmet (send-by processes tell conditions decider node queue from cue unmet bytes n a b room u end comes place .comes) n a b u

@@ -2,8 +2,9 @@
 -- and `bytes` by edge. Condition k's row is tell + k, edge e's is processes + e, and the messages of the slot's node are those of `queue`
 -- from place a to before place b. The clock u is the tick plus 1.
 -- Assumes nothing.
-use Prim.Native.Nat.{ℕ, zero, suc, _+_}
+use Prim.Native.Nat.{ℕ, zero, suc, _+_, _-_, _≤_, _<_}
 use mathlib.Core.Bool.{Bool, true, not, _&&_, _||_}
+use mathlib.Core.Path.{_≡_}
 use mathlib.Core.List.{List, [], _∷_}
 use lib.Dec.{eqb, leb, ltb}
 use lib.ListN.{length, getD, set}
@@ -66,6 +67,52 @@ module _ (processes : ℕ) (from cue unmet bytes : List ℕ) (room u end : ℕ) 
   unfoldable pub send-all : List ℕ → Load → Load
   send-all [] s = s
   send-all (e ∷ es) s = send-all es (try-send e s)
+
+-- Messages that wait are tried one after another; those that are not taken are left; and the nodes that receive those that are taken are stirred at the slot's end.
+module _ (processes : ℕ) (bytes : List ℕ) (room end : ℕ) where
+  abbrev pub fits-in : ℕ → Load → Bool
+  fits-in e s = ltb (s .used) room && leb (s .used + getD bytes e 0) room
+
+  abbrev pub try-one : ℕ → Load → Load
+  try-one e s = tried room end (processes + e) (getD bytes e 0) s
+
+  unfoldable pub take-all : List ℕ → Load → Load
+  take-all [] s = s
+  take-all (e ∷ es) s = take-all es (try-one e s)
+
+  unfoldable pub left-of : List ℕ → Load → List ℕ
+  left-of [] s = []
+  left-of (e ∷ es) s = if fits-in e s then left-of es (try-one e s) else e ∷ left-of es (try-one e s)
+
+  unfoldable pub stir-taken : List ℕ → List ℕ → Load → List ℕ → List ℕ
+  stir-taken remote [] s stirred = stirred
+  stir-taken remote (e ∷ es) s stirred = stir-taken remote es (try-one e s) (if fits-in e s then set stirred (getD remote e 0 - 1) end else stirred)
+
+-- the nodes below n are stirred at a slot's end
+unfoldable pub stir-all : ℕ → ℕ → List ℕ → List ℕ
+stir-all end zero stirred = stirred
+stir-all end (suc n) stirred = set (stir-all end n stirred) n end
+
+-- a message that arrives at `end` stirs the node that receives it, whose number is one less than `to`
+unfoldable pub stir-one : ℕ → ℕ → ℕ → List ℕ → List ℕ
+stir-one come to end stirred = if eqb come end then set stirred (to - 1) end else stirred
+
+module _ (processes : ℕ) (remote comes : List ℕ) (end : ℕ) where
+  -- the messages of some edges; and a broadcast before them, which stirs every node
+  unfoldable pub stir-each : List ℕ → List ℕ → List ℕ
+  stir-each [] stirred = stirred
+  stir-each (e ∷ es) stirred = stir-each es (stir-one (getD comes (processes + e) 0) (getD remote e 0) end stirred)
+
+  unfoldable pub stir-by : ℕ → ℕ → List ℕ → List ℕ → List ℕ
+  stir-by slots told es stirred = stir-each es (if eqb told end then stir-all end slots stirred else stirred)
+
+-- Some numbers stand in an array from place a up to place r, and nothing else changed.
+pub record Listed (before after : List ℕ) (a r : ℕ) (numbers : List ℕ) : Type 0 where
+  pub from : a ≤ r
+  pub holds : part after a r ≡ numbers
+  pub under : (i : ℕ) → i < a → getD after i 0 ≡ getD before i 0
+  pub past : (i : ℕ) → r ≤ i → getD after i 0 ≡ getD before i 0
+  pub long : length after ≡ length before
 
 -- the broadcasts that a slot takes
 unfoldable pub tells-sent : ℕ → ℕ → List ℕ → List ℕ → ℕ → ℕ → ℕ → ℕ → List ℕ → List ℕ → Load

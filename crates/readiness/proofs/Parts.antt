@@ -2,11 +2,13 @@
 -- Assumes nothing.
 use mathlib.Core.Path.{_≡_, refl, ap, _∙_}
 use mathlib.Core.Bool.{Bool, true, false, _&&_, _||_}
-use mathlib.Core.List.{List, [], _∷_, map}
-use Prim.Native.Nat.{ℕ, _+_, _≤_, _<_}
+use mathlib.Core.List.{List, [], _∷_, map, List·Memᴰ as In}
+use Prim.Native.Nat.{ℕ, _+_, _-_, _≤_, _<_}
+use native.Mathlib.Omega.{arith}
 use lib.ListN.{getD}
-use Rattle.lists.specs.Lists.{any, all}
+use Rattle.lists.specs.Lists.{any, all, upfrom}
 use Rattle.lists.proofs.Tests.{and-false, and-true, or-false, or-right}
+use Rattle.lists.proofs.Members.{in-upfrom, upfrom-in, in-map, map-in}
 use Rattle.lists.proofs.Loops.{upfrom-next, upfrom-end}
 use Rattle.readiness.specs.Reading.{part}
 
@@ -19,7 +21,7 @@ abbrev pub settled : (ℕ → Bool) → (ℕ → Bool) → Bool → List ℕ →
 settled f g s ys = (s || any f ys) && all (λ e. f e || g e) ys
 
 module _ (xs : List ℕ) (j b : ℕ) (l : j < b) where
-  part-next : part xs j b ≡ getD xs j 0 ∷ part xs (j + 1) b
+  pub part-next : part xs j b ≡ getD xs j 0 ∷ part xs (j + 1) b
   unfolding part
   part-next = ap (map (λ j. getD xs j 0)) (upfrom-next b j l)
 
@@ -48,3 +50,15 @@ module _ (xs : List ℕ) (j b : ℕ) (l : j < b) where
 
 pub settled-end : (xs : List ℕ) (j b : ℕ) (f g : ℕ → Bool) (s : Bool) → b ≤ j → settled f g s (part xs j b) ≡ s
 settled-end xs j b f g s l = ap (settled f g s) (part-end xs j b l) ∙ rw (or-false s, and-true s)
+
+-- the numbers from place a to before place b are the members of the part
+pub in-part : (xs : List ℕ) (a b j : ℕ) → a ≤ j → j < b → In (getD xs j 0) (part xs a b)
+unfolding part
+in-part xs a b j lo hi = in-map (λ j. getD xs j 0) (in-upfrom a (b - a) j lo (omega arith))
+
+pub part-in : (xs : List ℕ) (a b : ℕ) {x : ℕ} → In x (part xs a b) → (j : ℕ) × (a ≤ j) × (j < b) × (x ≡ getD xs j 0)
+unfolding part
+part-in xs a b m =
+    let r = map-in (λ j. getD xs j 0) (upfrom a (b - a)) m in
+    let u = upfrom-in a (b - a) (r .1) in
+    (r .0, u .0, omega (arith, u .0, u .1), r .2)

@@ -1,3 +1,3 @@
--- Loops has what the proofs of the functions rest on, Leaving what a slot answers.
+-- Loops has what the proofs of the functions rest on, Waits what stands in the array of the messages that wait.
 pub mod Loops
-pub mod Leaving
+pub mod Waits

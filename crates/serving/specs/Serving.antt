@@ -1,14 +1,17 @@
 -- What the slot of a node takes as it begins, in the words of the arrays, and what is kept by node of it: `due` has the clock at which the node's slot next takes
 -- an item, `no-event` where the node has none pending, and `stirred` the last clock at which an item arrives at it. The clock is the tick plus 1.
 -- Assumes nothing.
-use Prim.Native.Nat.{ℕ, zero, suc, _+_, _-_}
-use mathlib.Core.Bool.{Bool, _||_}
-use mathlib.Core.List.{List, [], _∷_}
+use Prim.Native.Nat.{ℕ, zero, suc, _+_, _-_, _≤_, _<_}
+use mathlib.Core.Path.{_≡_}
+use mathlib.Core.Logic.{_⊎_}
+use mathlib.Core.Bool.{Bool, true, false, _||_}
+use mathlib.Core.List.{List}
 use lib.Dec.{eqb}
-use lib.ListN.{getD, set}
-use Rattle.lists.specs.Lists.{if_then_else_}
+use lib.ListN.{length, getD, set}
+use Rattle.lists.specs.Lists.{if_then_else_, keep}
 use Rattle.timetable.specs.Bus.{beginning-at}
-use Rattle.packing.specs.Packing.{Load, pending-by, send-by, told-by}
+use Rattle.readiness.specs.Reading.{part}
+use Rattle.packing.specs.Packing.{Load, Listed, waits-by, take-all, left-of, stir-taken, stir-all, pending-by, tells-sent, send-by, told-by}
 
 -- a clock that no event has: the answer where no event is left
 abbrev pub no-event : ℕ
@@ -30,7 +33,46 @@ unfoldable pub filled : ℕ → ℕ → Load → Bool → Bus → Bus
 filled n end l t s =
     bus (if eqb (l .used) 0 then s .flight else end) (if t then end else s .told) (l .comes) (l .place) (if l .short then set (s .passed) n (getD (s .passed) n 0 + 1) else s .passed)
 
+-- what a slot takes first of all: its broadcasts; and then, of some messages that wait
+module _ (processes tell conditions : ℕ) (decider node bytes lasts rooms : List ℕ) (n u : ℕ) where
+  abbrev pub tells-in : List ℕ → List ℕ → Load
+  tells-in comes place = tells-sent tell conditions decider node n (getD rooms n 0) u (u + getD lasts n 0) comes place
+
+  abbrev pub told-in : List ℕ → List ℕ → Bool
+  told-in comes place = told-by tell conditions decider node n (getD rooms n 0) u (u + getD lasts n 0) comes place
+
+  abbrev pub taken-in : List ℕ → List ℕ → List ℕ → Load
+  taken-in messages comes place = take-all processes bytes (getD rooms n 0) (u + getD lasts n 0) messages (tells-in comes place)
+
+  -- the slot of node n takes its items, where these are the messages that wait
+  unfoldable pub fill-with : List ℕ → Bus → Bus
+  fill-with messages s = filled n (u + getD lasts n 0) (taken-in messages (s .comes) (s .place)) (told-in (s .comes) (s .place)) s
+
+  -- the messages that are left, and the nodes that are stirred
+  unfoldable pub left-with : List ℕ → List ℕ → List ℕ → List ℕ
+  left-with messages comes place = left-of processes bytes (getD rooms n 0) (u + getD lasts n 0) messages (tells-in comes place)
+
+  unfoldable pub stir-with : List ℕ → ℕ → List ℕ → List ℕ → List ℕ → List ℕ → List ℕ
+  stir-with remote slots messages comes place stirred =
+      stir-taken processes bytes (getD rooms n 0) (u + getD lasts n 0) remote messages (tells-in comes place) (if told-in comes place then stir-all (u + getD lasts n 0) slots stirred else stirred)
+
+-- Messages of node n stand in an array from the place of its queue on, up to where `waitend` says.
+pub record Waiting (queuefirst wait waitend : List ℕ) (n : ℕ) (messages : List ℕ) : Type 0 where
+  pub begins : getD queuefirst n 0 ≤ getD waitend n 0
+  pub ends : getD waitend n 0 ≤ getD queuefirst (n + 1) 0
+  pub holds : part wait (getD queuefirst n 0) (getD waitend n 0) ≡ messages
+
+-- how long these arrays are and how large their numbers
+pub record Roomy (wait waitend : List ℕ) : Type 0 where
+  pub wait-long : length wait ≡ 128
+  pub wait-small : (j : ℕ) → getD wait j 0 < 128
+  pub ends-long : length waitend ≡ 8
+
 module _ (processes tell conditions : ℕ) (decider node queuefirst queue from cue unmet : List ℕ) where
+  -- the messages of node n that are ready and not sent
+  abbrev pub waiting-in : List ℕ → ℕ → ℕ → List ℕ
+  waiting-in comes u n = keep (waits-by processes from cue unmet comes u) (part queue (getD queuefirst n 0) (getD queuefirst (n + 1) 0))
+
   -- node n has an item that is ready and not sent
   unfoldable pub pending-in : List ℕ → ℕ → ℕ → Bool
   pending-in comes u n =
@@ -62,20 +104,30 @@ module _ (told u : ℕ) (pending : ℕ → Bool) (busy : List ℕ) (round : ℕ)
   unfoldable pub attend-by : ℕ → ℕ → List ℕ → List ℕ
   attend-by come slots due = if eqb come u then attend-below slots due else due
 
--- the nodes below n are stirred at `end`
-unfoldable pub stir-all : ℕ → ℕ → List ℕ → List ℕ
-stir-all end zero stirred = stirred
-stir-all end (suc n) stirred = set (stir-all end n stirred) n end
+-- Messages of node n are listed anew: they stand in the array, and nothing changed outside the places of its queue.
+pub record Relisted (queuefirst : List ℕ) (n : ℕ) (messages wait waitend wait′ waitend′ : List ℕ) : Type 0 where
+  pub end : ℕ
+  pub listed : Listed wait wait′ (getD queuefirst n 0) end messages
+  pub upto : end ≤ getD queuefirst (n + 1) 0
+  pub stored : waitend′ ≡ set waitend n end
 
--- a message that arrives at `end` stirs the node that receives it, whose number is one less than `to`
-unfoldable pub stir-one : ℕ → ℕ → ℕ → List ℕ → List ℕ
-stir-one come to end stirred = if eqb come end then set stirred (to - 1) end else stirred
+-- Those that wait are listed anew where a broadcast arrives or the node's last process ends at the clock; elsewhere nothing changed.
+pub record Attended-node (told u : ℕ) (busy queuefirst : List ℕ) (n : ℕ) (messages wait waitend wait′ waitend′ : List ℕ) : Type 0 where
+  pub looked : (eqb told u || eqb (getD busy n 0) u) ≡ true → Relisted queuefirst n messages wait waitend wait′ waitend′
+  pub kept : (eqb told u || eqb (getD busy n 0) u) ≡ false → (wait′ ≡ wait) × (waitend′ ≡ waitend)
 
-module _ (processes : ℕ) (remote comes : List ℕ) (end : ℕ) where
-  -- the messages of some edges; and a broadcast, which stirs every node
-  unfoldable pub stir-each : List ℕ → List ℕ → List ℕ
-  stir-each [] stirred = stirred
-  stir-each (e ∷ es) stirred = stir-each es (stir-one (getD comes (processes + e) 0) (getD remote e 0) end stirred)
+-- The same of the nodes below n: those that wait stand in the array, and of the other nodes what stood there.
+pub record Attended-below (told u : ℕ) (busy queuefirst : List ℕ) (slots n : ℕ) (messages : ℕ → List ℕ) (wait waitend wait′ waitend′ : List ℕ) : Type 0 where
+  pub roomy : Roomy wait′ waitend′
+  pub looked : (i : ℕ) → i < n → (eqb told u || eqb (getD busy i 0) u) ≡ true → Waiting queuefirst wait′ waitend′ i (messages i)
+  pub kept : (i : ℕ) → i < slots → (n ≤ i) ⊎ ((eqb told u || eqb (getD busy i 0) u) ≡ false) → (ms : List ℕ) → Waiting queuefirst wait waitend i ms → Waiting queuefirst wait′ waitend′ i ms
 
-  unfoldable pub stir-by : ℕ → ℕ → List ℕ → List ℕ → List ℕ
-  stir-by slots told es stirred = if eqb told end then stir-all end slots stirred else stir-each es stirred
+-- The same of all nodes; where no row is over at the clock, nothing changed.
+pub record Attended-all (told u come slots : ℕ) (busy queuefirst : List ℕ) (messages : ℕ → List ℕ) (wait waitend wait′ waitend′ : List ℕ) : Type 0 where
+  pub all : come ≡ u → Attended-below told u busy queuefirst slots slots messages wait waitend wait′ waitend′
+  pub none : (come ≡ u → ⊥) → (wait′ ≡ wait) × (waitend′ ≡ waitend)
+
+-- After a slot the messages that are left are listed anew; where none begins, nothing changed.
+pub record Served (slots n : ℕ) (queuefirst messages wait waitend wait′ waitend′ : List ℕ) : Type 0 where
+  pub left : n < slots → Relisted queuefirst n messages wait waitend wait′ waitend′
+  pub kept : n ≡ slots → (wait′ ≡ wait) × (waitend′ ≡ waitend)

@@ -1,5 +1,6 @@
 // What the slot of a node takes as it begins, at which nodes that arrives, and when the slot next takes something. specs/Serving.antt says the same of the arrays.
-use packing::pending;
+use packing::find_waiting;
+use packing::has_tell;
 use packing::send;
 use timetable::first_beginning;
 ghost use mathlib.Core.Path.{_≡_};
@@ -10,14 +11,15 @@ ghost use lib.Dec.{eqb};
 ghost use lib.ListN.{length, getD, set};
 ghost use Rattle.lists.specs.Lists.{if_then_else_};
 ghost use Rattle.readiness.specs.Reading.{part, Within};
-ghost use Rattle.packing.specs.Packing.{send-by};
-ghost use Rattle.serving.specs.Serving.{bus, fill-by, pending-in, due-from, attend-node, attend-by, stir-all, stir-one, stir-each, stir-by};
+ghost use Rattle.packing.specs.Packing.{Listed};
+ghost use Rattle.serving.specs.Serving.{bus, fill-with, taken-in, left-with, stir-with, Roomy, Relisted, Attended-node, Attended-all, Served, waiting-in, pending-in, due-from, attend-node, attend-by};
 
-// The end of the last slot used, and of the last one with a broadcast; and whether a ready item was not taken.
+// The end of the last slot used, and of the last one with a broadcast; whether a ready item was not taken; and the place behind the messages that are left.
 struct Filled {
     flight: u32,
     told: u32,
     short: bool,
+    behind: u32,
 }
 
 // The slot of node n takes its items at clock u.
@@ -25,14 +27,12 @@ fn fill<'a>(
     processes: usize,
     tell: usize,
     conditions: usize,
+    slots: usize,
     decider: &'a [u32; 6],
     node: &'a [u32; 64],
     queuefirst: &'a [u32; 65],
-    queue: &'a [u32; 128],
-    from: &'a [u32; 128],
-    cue: &'a [u32; 128],
-    unmet: &'a [u32; 128],
     bytes: &'a [u32; 128],
+    remote: &'a [u32; 128],
     lasts: &'a [u32; 8],
     rooms: &'a [u32; 8],
     n: usize,
@@ -42,35 +42,42 @@ fn fill<'a>(
     comes: &mut [u32; 198],
     place: &mut [u32; 198],
     passed: &mut [u32; 8],
+    stirred: &mut [u32; 8],
+    wait: &mut [u32; 128],
+    waitend: &'a [u32; 8],
 ) -> Filled
-    requires { ⌜ (n < 8) × (processes ≤ 64) × (tell ≤ 192) × (conditions ≤ 6) × ((k : ℕ) → getD (now decider) k 0 < 64) × Within (now from) (now cue) (now queue) × ((k : ℕ) → getD (now queuefirst) k 0 ≤ 128) × (u ≤ 1000000000) × (getD (now lasts) n 0 ≤ 64000) × ((k : ℕ) → getD (now passed) k 0 ≤ u) ⌝ }
-    ensures taken { λ r. ⌜ bus (r .flight) (r .told) (now (comes .exit)) (now (place .exit)) (now (passed .exit)) ≡ fill-by processes tell conditions (now (decider .entry)) (now (node .entry)) (now (queuefirst .entry)) (now (queue .entry)) (now (from .entry)) (now (cue .entry)) (now (unmet .entry)) (now (bytes .entry)) (now (lasts .entry)) (now (rooms .entry)) n u (bus flight told (now (comes .entry)) (now (place .entry)) (now (passed .entry))) ⌝ }
-    ensures short { λ r. ⌜ r .short ≡ send-by processes tell conditions (now (decider .entry)) (now (node .entry)) (now (queue .entry)) (now (from .entry)) (now (cue .entry)) (now (unmet .entry)) (now (bytes .entry)) n (getD (now (queuefirst .entry)) n 0) (getD (now (queuefirst .entry)) (n + 1) 0) (getD (now (rooms .entry)) n 0) u (u + getD (now (lasts .entry)) n 0) (now (comes .entry)) (now (place .entry)) .short ⌝ }
+    requires { ⌜ (n < 8) × (processes ≤ 64) × (tell ≤ 192) × (conditions ≤ 6) × (slots ≤ 8) × ((k : ℕ) → getD (now decider) k 0 < 64) × ((k : ℕ) → getD (now queuefirst) k 0 ≤ 128) × (u ≤ 1000000000) × (getD (now lasts) n 0 ≤ 64000) × ((k : ℕ) → getD (now passed) k 0 ≤ u) × ((e : ℕ) → In e (part (now wait) (getD (now queuefirst) n 0) (getD (now waitend) n 0)) → 1 ≤ getD (now remote) e 0) × ((e : ℕ) → getD (now remote) e 0 ≤ 8) × (getD (now queuefirst) n 0 ≤ getD (now waitend) n 0) × (getD (now waitend) n 0 ≤ 128) × (length (now wait) ≡ 128) × ((j : ℕ) → getD (now wait) j 0 < 128) ⌝ }
+    ensures taken { λ r. ⌜ bus (r .flight) (r .told) (now (comes .exit)) (now (place .exit)) (now (passed .exit)) ≡ fill-with processes tell conditions (now (decider .entry)) (now (node .entry)) (now (bytes .entry)) (now (lasts .entry)) (now (rooms .entry)) n u (part (now (wait .entry)) (getD (now (queuefirst .entry)) n 0) (getD (now (waitend .entry)) n 0)) (bus flight told (now (comes .entry)) (now (place .entry)) (now (passed .entry))) ⌝ }
+    ensures short { λ r. ⌜ r .short ≡ taken-in processes tell conditions (now (decider .entry)) (now (node .entry)) (now (bytes .entry)) (now (lasts .entry)) (now (rooms .entry)) n u (part (now (wait .entry)) (getD (now (queuefirst .entry)) n 0) (getD (now (waitend .entry)) n 0)) (now (comes .entry)) (now (place .entry)) .short ⌝ }
+    ensures left { λ r. ⌜ Listed (now (wait .entry)) (now (wait .exit)) (getD (now (queuefirst .entry)) n 0) (r .behind) (left-with processes tell conditions (now (decider .entry)) (now (node .entry)) (now (bytes .entry)) (now (lasts .entry)) (now (rooms .entry)) n u (part (now (wait .entry)) (getD (now (queuefirst .entry)) n 0) (getD (now (waitend .entry)) n 0)) (now (comes .entry)) (now (place .entry))) ⌝ }
+    ensures behind { λ r. ⌜ r .behind ≤ getD (now (waitend .entry)) n 0 ⌝ }
+    ensures arrivals { λ r. ⌜ now (stirred .exit) ≡ stir-with processes tell conditions (now (decider .entry)) (now (node .entry)) (now (bytes .entry)) (now (lasts .entry)) (now (rooms .entry)) n u (now (remote .entry)) slots (part (now (wait .entry)) (getD (now (queuefirst .entry)) n 0) (getD (now (waitend .entry)) n 0)) (now (comes .entry)) (now (place .entry)) (now (stirred .entry)) ⌝ }
 {
     let a = queuefirst[n] as usize;
-    let b = queuefirst[n + 1] as usize;
+    let z = waitend[n] as usize;
     let end = u + lasts[n];
     let room = rooms[n];
     let sent = send(
         processes,
         tell,
         conditions,
+        slots,
         decider,
         node,
-        queue,
-        from,
-        cue,
-        unmet,
         bytes,
+        remote,
         n as u32,
         a,
-        b,
+        z,
         room,
         u,
         end,
+        wait,
         comes,
         place,
+        stirred,
     );
+    let behind = sent.behind as u32;
     if sent.short {
         passed[n] = passed[n] + 1;
     }
@@ -80,6 +87,7 @@ fn fill<'a>(
         flight: used,
         told: heard,
         short: sent.short,
+        behind,
     }
 }
 
@@ -98,28 +106,21 @@ fn has_pending<'a>(
     comes: &'a [u32; 198],
     n: usize,
     u: u32,
+    wait: &mut [u32; 128],
+    waitend: &mut [u32; 8],
 ) -> bool
-    requires { ⌜ (n < 8) × (processes ≤ 64) × (tell ≤ 192) × (conditions ≤ 6) × ((k : ℕ) → getD (now decider) k 0 < 64) × Within (now from) (now cue) (now queue) × ((k : ℕ) → getD (now queuefirst) k 0 ≤ 128) ⌝ }
-    ensures { λ r. ⌜ r ≡ pending-in processes tell conditions (now (decider .entry)) (now (node .entry)) (now (queuefirst .entry)) (now (queue .entry)) (now (from .entry)) (now (cue .entry)) (now (unmet .entry)) (now (comes .entry)) u n ⌝ }
+    requires { ⌜ (n < 8) × (processes ≤ 64) × (tell ≤ 192) × (conditions ≤ 6) × ((k : ℕ) → getD (now decider) k 0 < 64) × Within (now from) (now cue) (now queue) × ((k : ℕ) → getD (now queuefirst) k 0 ≤ 128) × (getD (now queuefirst) n 0 ≤ getD (now queuefirst) (n + 1) 0) × (length (now wait) ≡ 128) ⌝ }
+    ensures pending { λ r. ⌜ r ≡ pending-in processes tell conditions (now (decider .entry)) (now (node .entry)) (now (queuefirst .entry)) (now (queue .entry)) (now (from .entry)) (now (cue .entry)) (now (unmet .entry)) (now (comes .entry)) u n ⌝ }
+    ensures waits { λ _. ⌜ Relisted (now (queuefirst .entry)) n (waiting-in processes tell conditions (now (decider .entry)) (now (node .entry)) (now (queuefirst .entry)) (now (queue .entry)) (now (from .entry)) (now (cue .entry)) (now (unmet .entry)) (now (comes .entry)) u n) (now (wait .entry)) (now (waitend .entry)) (now (wait .exit)) (now (waitend .exit)) ⌝ }
 {
     let a = queuefirst[n] as usize;
     let b = queuefirst[n + 1] as usize;
-    pending(
-        processes,
-        tell,
-        conditions,
-        decider,
-        node,
-        queue,
-        from,
-        cue,
-        unmet,
-        comes,
-        n as u32,
-        a,
-        b,
-        u,
-    )
+    let z = find_waiting(processes, queue, from, cue, unmet, comes, a, b, u, wait);
+    waitend[n] = z as u32;
+    if a < z {
+        return true;
+    }
+    has_tell(tell, conditions, decider, node, comes, n as u32, u)
 }
 
 // The clock of the first beginning of a slot from a tick on where its node has an item pending, or 2,000,000,000 where it has none.
@@ -163,9 +164,12 @@ fn attend_node<'a>(
     n: usize,
     u: u32,
     due: &mut [u32; 8],
+    wait: &mut [u32; 128],
+    waitend: &mut [u32; 8],
 )
-    requires { ⌜ (n < 8) × (processes ≤ 64) × (tell ≤ 192) × (conditions ≤ 6) × ((k : ℕ) → getD (now decider) k 0 < 64) × Within (now from) (now cue) (now queue) × ((k : ℕ) → getD (now queuefirst) k 0 ≤ 128) × (1 ≤ round) × (round ≤ 512000) × (getD (now offset) n 0 ≤ round) × (1 ≤ u) × (u ≤ 1000000000) ⌝ }
-    ensures { λ _. ⌜ now (due .exit) ≡ attend-node told u (pending-in processes tell conditions (now (decider .entry)) (now (node .entry)) (now (queuefirst .entry)) (now (queue .entry)) (now (from .entry)) (now (cue .entry)) (now (unmet .entry)) (now (comes .entry)) u) (now (busy .entry)) round (now (offset .entry)) n (now (due .entry)) ⌝ }
+    requires { ⌜ (n < 8) × (processes ≤ 64) × (tell ≤ 192) × (conditions ≤ 6) × ((k : ℕ) → getD (now decider) k 0 < 64) × Within (now from) (now cue) (now queue) × ((k : ℕ) → getD (now queuefirst) k 0 ≤ 128) × (1 ≤ round) × (round ≤ 512000) × (getD (now offset) n 0 ≤ round) × (1 ≤ u) × (u ≤ 1000000000) × (getD (now queuefirst) n 0 ≤ getD (now queuefirst) (n + 1) 0) × (length (now wait) ≡ 128) ⌝ }
+    ensures due { λ _. ⌜ now (due .exit) ≡ attend-node told u (pending-in processes tell conditions (now (decider .entry)) (now (node .entry)) (now (queuefirst .entry)) (now (queue .entry)) (now (from .entry)) (now (cue .entry)) (now (unmet .entry)) (now (comes .entry)) u) (now (busy .entry)) round (now (offset .entry)) n (now (due .entry)) ⌝ }
+    ensures waits { λ _. ⌜ Attended-node told u (now (busy .entry)) (now (queuefirst .entry)) n (waiting-in processes tell conditions (now (decider .entry)) (now (node .entry)) (now (queuefirst .entry)) (now (queue .entry)) (now (from .entry)) (now (cue .entry)) (now (unmet .entry)) (now (comes .entry)) u n) (now (wait .entry)) (now (waitend .entry)) (now (wait .exit)) (now (waitend .exit)) ⌝ }
 {
     if may_change(told, busy[n], u) {
         let some = has_pending(
@@ -182,6 +186,8 @@ fn attend_node<'a>(
             comes,
             n,
             u,
+            wait,
+            waitend,
         );
         let tick = u - 1;
         due[n] = due_from(round, offset[n], tick, some);
@@ -209,9 +215,12 @@ pub fn attend<'a>(
     told: u32,
     u: u32,
     due: &mut [u32; 8],
+    wait: &mut [u32; 128],
+    waitend: &mut [u32; 8],
 )
-    requires { ⌜ (slots ≤ 8) × (processes ≤ 64) × (tell ≤ 192) × (conditions ≤ 6) × ((k : ℕ) → getD (now decider) k 0 < 64) × Within (now from) (now cue) (now queue) × ((k : ℕ) → getD (now queuefirst) k 0 ≤ 128) × (1 ≤ round) × (round ≤ 512000) × ((n : ℕ) → n < slots → getD (now offset) n 0 ≤ round) × (1 ≤ u) × (u ≤ 1000000000) ⌝ }
-    ensures { λ _. ⌜ now (due .exit) ≡ attend-by told u (pending-in processes tell conditions (now (decider .entry)) (now (node .entry)) (now (queuefirst .entry)) (now (queue .entry)) (now (from .entry)) (now (cue .entry)) (now (unmet .entry)) (now (comes .entry)) u) (now (busy .entry)) round (now (offset .entry)) come slots (now (due .entry)) ⌝ }
+    requires { ⌜ (slots ≤ 8) × (processes ≤ 64) × (tell ≤ 192) × (conditions ≤ 6) × ((k : ℕ) → getD (now decider) k 0 < 64) × Within (now from) (now cue) (now queue) × ((k : ℕ) → getD (now queuefirst) k 0 ≤ 128) × (1 ≤ round) × (round ≤ 512000) × ((n : ℕ) → n < slots → getD (now offset) n 0 ≤ round) × (1 ≤ u) × (u ≤ 1000000000) × ((n : ℕ) → n < slots → getD (now queuefirst) n 0 ≤ getD (now queuefirst) (n + 1) 0) × Roomy (now wait) (now waitend) ⌝ }
+    ensures due { λ _. ⌜ now (due .exit) ≡ attend-by told u (pending-in processes tell conditions (now (decider .entry)) (now (node .entry)) (now (queuefirst .entry)) (now (queue .entry)) (now (from .entry)) (now (cue .entry)) (now (unmet .entry)) (now (comes .entry)) u) (now (busy .entry)) round (now (offset .entry)) come slots (now (due .entry)) ⌝ }
+    ensures waits { λ _. ⌜ Attended-all told u come slots (now (busy .entry)) (now (queuefirst .entry)) (waiting-in processes tell conditions (now (decider .entry)) (now (node .entry)) (now (queuefirst .entry)) (now (queue .entry)) (now (from .entry)) (now (cue .entry)) (now (unmet .entry)) (now (comes .entry)) u) (now (wait .entry)) (now (waitend .entry)) (now (wait .exit)) (now (waitend .exit)) ⌝ }
 {
     if come != u {
         return;
@@ -237,80 +246,11 @@ pub fn attend<'a>(
             n,
             u,
             due,
+            wait,
+            waitend,
         );
         n += 1;
     }
-}
-
-// An item arrives at every node at clock `end`.
-fn stir_all(slots: usize, end: u32, stirred: &mut [u32; 8])
-    requires { ⌜ slots ≤ 8 ⌝ }
-    ensures { λ _. ⌜ now (stirred .exit) ≡ stir-all end slots (now (stirred .entry)) ⌝ }
-{
-    let mut n: usize = 0;
-    while n < slots {
-        stirred[n] = end;
-        n += 1;
-    }
-}
-
-// A message arrives at clock `come` at the node whose number is one less than `to`: noted where it goes with the slot that ends at `end`.
-fn stir_one(come: u32, to: u32, end: u32, stirred: &mut [u32; 8])
-    requires { ⌜ (1 ≤ to) × (to ≤ 8) ⌝ }
-    ensures { λ _. ⌜ now (stirred .exit) ≡ stir-one come to end (now (stirred .entry)) ⌝ }
-{
-    if come == end {
-        stirred[to as usize - 1] = end;
-    }
-}
-
-// The messages of queue[a .. b] that go with the slot that ends at `end` arrive at their nodes.
-fn stir_each<'a>(
-    processes: usize,
-    remote: &'a [u32; 128],
-    queue: &'a [u32; 128],
-    comes: &'a [u32; 198],
-    a: usize,
-    b: usize,
-    end: u32,
-    stirred: &mut [u32; 8],
-)
-    requires { ⌜ (processes ≤ 64) × (b ≤ 128) × ((j : ℕ) → getD (now queue) j 0 < 128) × ((e : ℕ) → In e (part (now queue) a b) → 1 ≤ getD (now remote) e 0) × ((e : ℕ) → getD (now remote) e 0 ≤ 8) ⌝ }
-    ensures { λ _. ⌜ now (stirred .exit) ≡ stir-each processes (now (remote .entry)) (now (comes .entry)) end (part (now (queue .entry)) a b) (now (stirred .entry)) ⌝ }
-{
-    let mut j = a;
-    while j < b {
-        let e = queue[j] as usize;
-        let row = processes + e;
-        let come = comes[row];
-        let to = remote[e];
-        stir_one(come, to, end, stirred);
-        j += 1;
-    }
-}
-
-// The items of the slot that ends at `end` arrive: at every node where a broadcast is among them, at the receivers of its messages otherwise. `told` is the end
-// of the last slot with a broadcast.
-fn stir<'a>(
-    processes: usize,
-    slots: usize,
-    remote: &'a [u32; 128],
-    queue: &'a [u32; 128],
-    comes: &'a [u32; 198],
-    a: usize,
-    b: usize,
-    end: u32,
-    told: u32,
-    stirred: &mut [u32; 8],
-)
-    requires { ⌜ (slots ≤ 8) × (processes ≤ 64) × (b ≤ 128) × ((j : ℕ) → getD (now queue) j 0 < 128) × ((e : ℕ) → In e (part (now queue) a b) → 1 ≤ getD (now remote) e 0) × ((e : ℕ) → getD (now remote) e 0 ≤ 8) ⌝ }
-    ensures { λ _. ⌜ now (stirred .exit) ≡ stir-by processes (now (remote .entry)) (now (comes .entry)) end slots told (part (now (queue .entry)) a b) (now (stirred .entry)) ⌝ }
-{
-    if told == end {
-        stir_all(slots, end, stirred);
-        return;
-    }
-    stir_each(processes, remote, queue, comes, a, b, end, stirred)
 }
 
 // The end of the last slot used, and of the last one with a broadcast.
@@ -329,10 +269,6 @@ pub fn serve<'a>(
     decider: &'a [u32; 6],
     node: &'a [u32; 64],
     queuefirst: &'a [u32; 65],
-    queue: &'a [u32; 128],
-    from: &'a [u32; 128],
-    cue: &'a [u32; 128],
-    unmet: &'a [u32; 128],
     remote: &'a [u32; 128],
     bytes: &'a [u32; 128],
     round: u32,
@@ -348,11 +284,14 @@ pub fn serve<'a>(
     passed: &mut [u32; 8],
     stirred: &mut [u32; 8],
     due: &mut [u32; 8],
+    wait: &mut [u32; 128],
+    waitend: &mut [u32; 8],
 ) -> Ends
-    requires { ⌜ (processes ≤ 64) × (tell ≤ 192) × (conditions ≤ 6) × (slots ≤ 8) × (n ≤ slots) × ((k : ℕ) → getD (now decider) k 0 < 64) × Within (now from) (now cue) (now queue) × ((k : ℕ) → getD (now queuefirst) k 0 ≤ 128) × (1 ≤ round) × (round ≤ 512000) × ((k : ℕ) → k < slots → getD (now offset) k 0 ≤ round) × (u ≤ 1000000000) × ((k : ℕ) → k < slots → getD (now lasts) k 0 ≤ 64000) × ((k : ℕ) → getD (now passed) k 0 ≤ u) × ((e : ℕ) → n < slots → In e (part (now queue) (getD (now queuefirst) n 0) (getD (now queuefirst) (n + 1) 0)) → 1 ≤ getD (now remote) e 0) × ((e : ℕ) → getD (now remote) e 0 ≤ 8) × ((k : ℕ) → k < slots → 1 ≤ getD (now lasts) k 0) × ((e : ℕ) → n < slots → In e (part (now queue) (getD (now queuefirst) n 0) (getD (now queuefirst) (n + 1) 0)) → processes + e < tell) × (tell + conditions ≤ length (now comes)) ⌝ }
-    ensures taken { λ r. ⌜ bus (r .flight) (r .told) (now (comes .exit)) (now (place .exit)) (now (passed .exit)) ≡ (if eqb n slots then bus flight told (now (comes .entry)) (now (place .entry)) (now (passed .entry)) else fill-by processes tell conditions (now (decider .entry)) (now (node .entry)) (now (queuefirst .entry)) (now (queue .entry)) (now (from .entry)) (now (cue .entry)) (now (unmet .entry)) (now (bytes .entry)) (now (lasts .entry)) (now (rooms .entry)) n u (bus flight told (now (comes .entry)) (now (place .entry)) (now (passed .entry)))) ⌝ }
-    ensures arrivals { λ r. ⌜ now (stirred .exit) ≡ (if eqb n slots then now (stirred .entry) else stir-by processes (now (remote .entry)) (now (comes .exit)) (u + getD (now (lasts .entry)) n 0) slots (r .told) (part (now (queue .entry)) (getD (now (queuefirst .entry)) n 0) (getD (now (queuefirst .entry)) (n + 1) 0)) (now (stirred .entry))) ⌝ }
-    ensures slot { λ _. ⌜ now (due .exit) ≡ (if eqb n slots then now (due .entry) else set (now (due .entry)) n (due-from round (getD (now (offset .entry)) n 0) u (pending-in processes tell conditions (now (decider .entry)) (now (node .entry)) (now (queuefirst .entry)) (now (queue .entry)) (now (from .entry)) (now (cue .entry)) (now (unmet .entry)) (now (comes .exit)) u n))) ⌝ }
+    requires { ⌜ (processes ≤ 64) × (tell ≤ 192) × (conditions ≤ 6) × (slots ≤ 8) × (n ≤ slots) × ((k : ℕ) → getD (now decider) k 0 < 64) × ((k : ℕ) → getD (now queuefirst) k 0 ≤ 128) × (1 ≤ round) × (round ≤ 512000) × ((k : ℕ) → k < slots → getD (now offset) k 0 ≤ round) × (u ≤ 1000000000) × ((k : ℕ) → k < slots → getD (now lasts) k 0 ≤ 64000) × ((k : ℕ) → getD (now passed) k 0 ≤ u) × (n < slots → (e : ℕ) → In e (part (now wait) (getD (now queuefirst) n 0) (getD (now waitend) n 0)) → 1 ≤ getD (now remote) e 0) × ((e : ℕ) → getD (now remote) e 0 ≤ 8) × (n < slots → getD (now queuefirst) n 0 ≤ getD (now waitend) n 0) × (n < slots → getD (now waitend) n 0 ≤ getD (now queuefirst) (n + 1) 0) × Roomy (now wait) (now waitend) ⌝ }
+    ensures taken { λ r. ⌜ bus (r .flight) (r .told) (now (comes .exit)) (now (place .exit)) (now (passed .exit)) ≡ (if eqb n slots then (bus flight told (now (comes .entry)) (now (place .entry)) (now (passed .entry))) else fill-with processes tell conditions (now (decider .entry)) (now (node .entry)) (now (bytes .entry)) (now (lasts .entry)) (now (rooms .entry)) n u (part (now (wait .entry)) (getD (now (queuefirst .entry)) n 0) (getD (now (waitend .entry)) n 0)) (bus flight told (now (comes .entry)) (now (place .entry)) (now (passed .entry)))) ⌝ }
+    ensures arrivals { λ _. ⌜ now (stirred .exit) ≡ (if eqb n slots then now (stirred .entry) else stir-with processes tell conditions (now (decider .entry)) (now (node .entry)) (now (bytes .entry)) (now (lasts .entry)) (now (rooms .entry)) n u (now (remote .entry)) slots (part (now (wait .entry)) (getD (now (queuefirst .entry)) n 0) (getD (now (waitend .entry)) n 0)) (now (comes .entry)) (now (place .entry)) (now (stirred .entry))) ⌝ }
+    ensures slot { λ _. ⌜ now (due .exit) ≡ (if eqb n slots then now (due .entry) else set (now (due .entry)) n (due-from round (getD (now (offset .entry)) n 0) u (taken-in processes tell conditions (now (decider .entry)) (now (node .entry)) (now (bytes .entry)) (now (lasts .entry)) (now (rooms .entry)) n u (part (now (wait .entry)) (getD (now (queuefirst .entry)) n 0) (getD (now (waitend .entry)) n 0)) (now (comes .entry)) (now (place .entry)) .short))) ⌝ }
+    ensures waits { λ _. ⌜ Served slots n (now (queuefirst .entry)) (left-with processes tell conditions (now (decider .entry)) (now (node .entry)) (now (bytes .entry)) (now (lasts .entry)) (now (rooms .entry)) n u (part (now (wait .entry)) (getD (now (queuefirst .entry)) n 0) (getD (now (waitend .entry)) n 0)) (now (comes .entry)) (now (place .entry))) (now (wait .entry)) (now (waitend .entry)) (now (wait .exit)) (now (waitend .exit)) ⌝ }
 {
     if n == slots {
         return Ends { flight, told };
@@ -361,14 +300,12 @@ pub fn serve<'a>(
         processes,
         tell,
         conditions,
+        slots,
         decider,
         node,
         queuefirst,
-        queue,
-        from,
-        cue,
-        unmet,
         bytes,
+        remote,
         lasts,
         rooms,
         n,
@@ -378,22 +315,11 @@ pub fn serve<'a>(
         comes,
         place,
         passed,
-    );
-    let a = queuefirst[n] as usize;
-    let b = queuefirst[n + 1] as usize;
-    let end = u + lasts[n];
-    stir(
-        processes,
-        slots,
-        remote,
-        queue,
-        comes,
-        a,
-        b,
-        end,
-        s.told,
         stirred,
+        wait,
+        waitend,
     );
+    waitend[n] = s.behind;
     due[n] = due_from(round, offset[n], u, s.short);
     Ends {
         flight: s.flight,

@@ -2,8 +2,9 @@
 -- Assumes nothing.
 use borrow.Author.Needs.{needs}
 use Rattle.board.specs.declared.Board.{Board}
-use Rattle.event.specs.Course.{Moment, moment, hears, begins-with, serves, waiting, notes, board-of}
-use Rattle.event.proofs.Keeping.{quiet, node-low, rows-room, event-on}
+use Rattle.event.specs.Course.{Moment, moment, hears, begins-with, serves, waiting, messages, notes, board-of}
+use Rattle.event.proofs.Keeping.{quiet, node-low}
+use Rattle.event.proofs.Whole.{roomy-now, waits-now, remote-now, event-whole}
 use Rattle.event.proofs.event.Statement.{statement}
 use Rattle.event.proofs.event.Tie as tie
 
@@ -26,7 +27,7 @@ abbrev of-heard : tie.After-heard → tie.After-note
 of-heard c = c .before .before .before
 
 abbrev of-attend : tie.After-attend → tie.After-heard
-of-attend c = c .before .before .before .before
+of-attend c = c .before .before .before .before .before .before
 
 abbrev of-begin : tie.After-begin → tie.After-attend
 of-begin c = c .before .before .before .before .before
@@ -35,7 +36,7 @@ abbrev of-served : tie.After-served → tie.After-begin
 of-served c = c .before .before
 
 abbrev of-serve : tie.After-serve → tie.After-served
-of-serve c = c .before .before .before .before .before .before
+of-serve c = c .before .before .before .before .before .before .before .before
 
 abbrev of-come : tie.After-come-after → tie.After-serve
 of-come c = c .before .before
@@ -55,9 +56,9 @@ heard-requires c κs =
 attend-requires : tie.Need-attend-requires
 unfolding board-of
 attend-requires c κs =
-    let s = of-note (of-heard (c .before .before .before)) in
+    let s = of-note (of-heard (c .before .before .before .before .before)) in
     let f = s .pre .0 in
-    (f .few-slots, f .few-processes, f .few-rows, f .few-conditions, f .deciders, f .within-queue, f .queue-firsts, f .round-one, f .round-most, f .offset-most, s .pre .1 .from-one, s .pre .2)
+    (f .few-slots, f .few-processes, f .few-rows, f .few-conditions, f .deciders, f .within-queue, f .queue-firsts, f .round-one, f .round-most, f .offset-most, s .pre .1 .from-one, s .pre .2, f .queue-rising, s .pre .5 .roomy)
 
 begin-requires : tie.Need-begin-requires
 unfolding board-of hears
@@ -72,14 +73,15 @@ served-requires : tie.Need-served-requires
 served-requires c κs = search needs
 
 serve-requires : tie.Need-serve-requires
-unfolding board-of hears begins-with waiting
+unfolding board-of hears begins-with waiting messages
 serve-requires c κs =
-    let v = c .before .before .before .before .before in
+    let v = c .before .before .before .before .before .before .before in
     let d = of-begin (of-served v) in
     let s = of-note (of-heard (of-attend d)) in
     let a = s .args in
     let f = s .pre .0 in
-    (f .few-processes, f .few-rows, f .few-conditions, f .few-slots, node-low (board s) f (a .unmet .now) (at s) (a .stirred .now) (a .due .now) (s .pre .1) _ (d .attend .ensures) (s .pre .2) _ (v .served .ensures), f .deciders, f .within-queue, f .queue-firsts, f .round-one, f .round-most, f .offset-most, s .pre .2, f .lasts-small, s .pre .3, λ e n m. f .queue-own _ e n m .2, f .remote-most, f .lasts-one, λ e n m. f .remote-row e (f .queue-own _ e n m .2), rows-room (board s) f (a .unmet .now) (at s) (a .stirred .now) (a .due .now) (s .pre .1) _ (d .attend .ensures) (s .pre .2) _ (v .served .ensures) _ (of-attend d .heard .ensures) _ _ (of-served v .begin .ensures .0) (of-served v .begin .ensures .1))
+    let w = waits-now (board s) f (a .unmet .now) (at s) (a .stirred .now) (a .due .now) (s .pre .1) (a .wait .now) (a .waitend .now) (s .pre .5) _ _ (d .attend .ensures .1) _ (d .attend .ensures .0) (s .pre .2) _ (v .served .ensures) in
+    (f .few-processes, f .few-rows, f .few-conditions, f .few-slots, node-low (board s) f (a .unmet .now) (at s) (a .stirred .now) (a .due .now) (s .pre .1) _ (d .attend .ensures .0) (s .pre .2) _ (v .served .ensures), f .deciders, f .queue-firsts, f .round-one, f .round-most, f .offset-most, s .pre .2, f .lasts-small, s .pre .3, remote-now (board s) f (a .unmet .now) (at s) (a .stirred .now) (a .due .now) (s .pre .1) (a .wait .now) (a .waitend .now) (s .pre .5) _ _ (d .attend .ensures .1) _ (d .attend .ensures .0) (s .pre .2) _ (v .served .ensures), f .remote-most, λ l. w _ l .begins, λ l. w _ l .ends, roomy-now (board s) f (a .unmet .now) (at s) (a .stirred .now) (a .due .now) (s .pre .1) (a .wait .now) (a .waitend .now) (s .pre .5) _ _ (d .attend .ensures .1) _ (d .attend .ensures .0) (s .pre .2) _ (v .served .ensures))
 
 come-after-requires : tie.Need-come-after-requires
 unfolding board-of
@@ -89,7 +91,7 @@ next-event-requires : tie.Need-next-event-requires
 next-event-requires c κs = search needs
 
 returns : tie.Need-returns
-unfolding board-of hears begins-with serves waiting notes
+unfolding board-of hears begins-with serves waiting messages notes
 returns c =
     let o = c .before .before in
     let t = of-come o in
@@ -100,7 +102,8 @@ returns c =
     let w = of-heard h in
     let s = of-note w in
     let a = s .args in
-    event-on (board s) (s .pre .0) (a .unmet .now) (at s) (a .stirred .now) (a .due .now) (s .pre .1) _ (d .attend .ensures) (s .pre .2) _ (v .served .ensures) _ (h .heard .ensures) _ _ (g .begin .ensures .0) (g .begin .ensures .1) _ _ _ _ _ (t .serve .ensures .0) _ _ (t .serve .ensures .1 .0) (t .serve .ensures .1 .1) _ _ (o .come-after .ensures) (c .next-event .ensures) _ (w .note .ensures)
+    let f = s .pre .0 in
+    event-whole (board s) f (a .unmet .now) (at s) (a .stirred .now) (a .due .now) (s .pre .1) (a .wait .now) (a .waitend .now) (s .pre .5) _ _ (d .attend .ensures .1) _ (d .attend .ensures .0) (s .pre .2) _ (v .served .ensures) _ (h .heard .ensures) _ _ (g .begin .ensures .0) (g .begin .ensures .1) _ _ _ _ _ (t .serve .ensures .0) _ _ _ _ (t .serve .ensures .1 .0) (t .serve .ensures .1 .1 .0) (t .serve .ensures .1 .1 .1) _ _ (o .come-after .ensures) (c .next-event .ensures) _ (w .note .ensures)
 
 pub event-spec : {M : Type 1} → statement M
 event-spec =

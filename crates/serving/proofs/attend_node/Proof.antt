@@ -1,11 +1,11 @@
 -- `serving::attend_node` meets its contract: what the node has pending is looked up where it may change, and nothing changes elsewhere.
 -- Assumes nothing.
-use mathlib.Core.Path.{sym, ap, _∙_}
-use mathlib.Core.Bool.{Bool}
-use Prim.Native.Nat.{ℕ, _-_}
+use mathlib.Core.Path.{refl, sym, ap, _∙_}
+use Prim.Native.Nat.{_-_}
 use lib.ListN.{getD, set}
-use borrow.Author.Needs.{needs}
+use Rattle.lists.proofs.Tests.{clash}
 use Rattle.serving.specs.Serving.{due-from, attend-node}
+use borrow.Author.Needs.{needs}
 use Rattle.serving.proofs.attend_node.Statement.{statement}
 use Rattle.serving.proofs.attend_node.Tie as tie
 
@@ -43,14 +43,18 @@ returns : tie.Need-returns
 unfolding attend-node
 returns c =
     let h = c .before .before in
-    let i = h .before in
+    let i = h .before .before .before in
     let a = i .before .before .before .args in
-    rw (sym (i .before .may-change .ensures) ∙ i .if1 .taken)
-    (ap (set (a .due .now) (a .n)) (c .due-from .ensures ∙ ap (due-from (a .round) (getD (a .offset .now) (a .n) 0) (a .u - 1)) (h .has-pending .ensures)))
+    let e = sym (i .before .may-change .ensures) ∙ i .if1 .taken in (
+      rw e (ap (set (a .due .now) (a .n)) (c .due-from .ensures ∙ ap (due-from (a .round) (getD (a .offset .now) (a .n) 0) (a .u - 1)) (h .has-pending .ensures .0))),
+      record { looked = λ q. h .has-pending .ensures .1; kept = λ q. clash e q },
+    )
 
 returns-2 : tie.Need-returns-2
 unfolding attend-node
-returns-2 c = rw (sym (c .before .may-change .ensures) ∙ c .if1 .left)
+returns-2 c =
+    let e = sym (c .before .may-change .ensures) ∙ c .if1 .left in
+    (rw e refl, record { looked = λ q. clash q e; kept = λ q. (refl, refl) })
 
 pub attend-node-spec : {M : Type 1} → statement M
 attend-node-spec =

@@ -1,47 +1,90 @@
--- `serving::has_pending` meets its contract: the answer is that of `pending`.
+-- `serving::has_pending` meets its contract: the messages that wait are listed anew; some item is pending where one is listed or a broadcast waits.
 -- Assumes nothing.
-use Prim.Native.Nat.{_+_}
+use mathlib.Core.Path.{refl, sym, ap, _∙_}
+use mathlib.Core.Bool.{Bool, _||_}
+use mathlib.Core.List.{List}
+use Prim.Native.Nat.{ℕ, _+_}
 use native.Mathlib.Omega.{arith}
+use lib.ListN.{getD}
+use Rattle.lists.specs.Lists.{any, below}
+use Rattle.readiness.specs.Reading.{part}
+use Rattle.packing.specs.Packing.{waits-by, tells-by, pending-by}
 use Rattle.serving.specs.Serving.{pending-in}
+use Rattle.serving.proofs.Waits.{some-waits, none-waits}
+use borrow.Author.Needs.{needs}
 use Rattle.serving.proofs.has_pending.Statement.{statement}
 use Rattle.serving.proofs.has_pending.Tie as tie
 
 mul-a : tie.Need-mul-a
-mul-a c = omega (arith, c .pre .0)
+mul-a c = search needs
 
 element-copy-out-a : tie.Need-element-copy-out-a
-element-copy-out-a c = omega (arith, c .pre .0)
+element-copy-out-a c = search needs
 
 cast-a : tie.Need-cast-a
-cast-a c =
-    let s = c .before in
-    omega (arith, s .pre .6 (s .args .n))
+cast-a c = let s = c .before in omega (arith, s .pre .6 (s .args .n))
 
 add-b : tie.Need-add-b
-add-b c = omega (arith, c .before .pre .0)
+add-b c = search needs
 
 mul-b : tie.Need-mul-b
-mul-b c = omega (arith, c .before .pre .0)
+mul-b c = search needs
 
 element-copy-out-b : tie.Need-element-copy-out-b
-element-copy-out-b c = omega (arith, c .before .pre .0)
+element-copy-out-b c = search needs
 
 cast-b : tie.Need-cast-b
-cast-b c =
-    let s = c .before .before in
-    omega (arith, s .pre .6 (s .args .n + 1))
+cast-b c = let s = c .before .before in omega (arith, s .pre .6 (s .args .n + 1))
 
-cast-pending : tie.Need-cast-pending
-cast-pending c = omega (arith, c .before .before .pre .0)
+find-waiting-requires : tie.Need-find-waiting-requires
+find-waiting-requires c κs =
+    let s = c .before .before .before in
+    (s .pre .1, s .pre .7, s .pre .6 (s .args .n + 1), s .pre .5, s .pre .8)
 
-pending-requires : tie.Need-pending-requires
-pending-requires c κs =
-    let s = c .before .before in
-    (s .pre .1, s .pre .2, s .pre .3, s .pre .6 (s .args .n + 1), s .pre .4, s .pre .5)
+cast-waitend : tie.Need-cast-waitend
+cast-waitend c =
+    let s = c .before .before .before .before in
+    omega (arith, c .find-waiting .ensures .1, s .pre .6 (s .args .n + 1))
+
+mul-waitend : tie.Need-mul-waitend
+mul-waitend c = search needs
+
+element-write-waitend : tie.Need-element-write-waitend
+element-write-waitend c = search needs
+
+-- the test that the messages pass, and the broadcasts
+abbrev waits : tie.Start → ℕ → Bool
+waits s = let a = s .args in waits-by (a .processes) (a .from .now) (a .cue .now) (a .unmet .now) (a .comes .now) (a .u)
+
+abbrev tells : tie.Start → Bool
+tells s = let a = s .args in any (tells-by (a .tell) (a .decider .now) (a .node .now) (a .comes .now) (a .n) (a .u)) (below (a .conditions))
+
+abbrev messages : tie.Start → List ℕ
+messages s = let a = s .args in part (a .queue .now) (getD (a .queuefirst .now) (a .n) 0) (getD (a .queuefirst .now) (a .n + 1) 0)
 
 returns : tie.Need-returns
-unfolding pending-in
-returns c = c .pending .ensures
+unfolding pending-in pending-by
+returns c =
+    let f = c .before in
+    let s = f .before .before .before .before in
+    let e = f .find-waiting .ensures in
+    let some = some-waits (waits s) (messages s) (s .args .wait .now) _ _ _ (e .0) (c .if1 .taken) in
+    (sym (ap (λ (b : Bool). b || tells s) some), record { end = f .find-waiting .result; listed = e .0; upto = e .1; stored = refl })
+
+cast-has-tell : tie.Need-cast-has-tell
+cast-has-tell c = search needs
+
+has-tell-requires : tie.Need-has-tell-requires
+has-tell-requires c κs = search needs
+
+returns-2 : tie.Need-returns-2
+unfolding pending-in pending-by
+returns-2 c =
+    let f = c .before .before in
+    let s = f .before .before .before .before in
+    let e = f .find-waiting .ensures in
+    let none = none-waits (waits s) (messages s) (s .args .wait .now) _ _ _ (e .0) (omega (arith, c .before .if1 .left)) in
+    (c .has-tell .ensures ∙ sym (ap (λ (b : Bool). b || tells s) none), record { end = f .find-waiting .result; listed = e .0; upto = e .1; stored = refl })
 
 pub has-pending-spec : {M : Type 1} → statement M
 has-pending-spec =
@@ -54,6 +97,11 @@ has-pending-spec =
     mul-b
     element-copy-out-b
     cast-b
-    cast-pending
-    pending-requires
-    returns)
+    find-waiting-requires
+    cast-waitend
+    mul-waitend
+    element-write-waitend
+    returns
+    cast-has-tell
+    has-tell-requires
+    returns-2)

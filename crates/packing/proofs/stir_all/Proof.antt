@@ -1,4 +1,4 @@
--- `serving::stir_all` meets its contract: before node n, the nodes below n are stirred.
+-- `packing::stir_all` meets its contract: before node n, the nodes below n are stirred.
 -- Assumes nothing.
 use mathlib.Core.Path.{_≡_, refl, sym, ap, _∙_}
 use mathlib.Core.List.{List}
@@ -7,9 +7,9 @@ use lib.ListN.{set}
 use native.Mathlib.Numerals.{add-one}
 use native.Mathlib.Omega.{arith}
 use borrow.Author.Needs.{needs}
-use Rattle.serving.specs.Serving.{stir-all}
-use Rattle.serving.proofs.stir_all.Statement.{statement}
-use Rattle.serving.proofs.stir_all.Tie as tie
+use Rattle.packing.specs.Packing.{stir-all}
+use Rattle.packing.proofs.stir_all.Statement.{statement}
+use Rattle.packing.proofs.stir_all.Tie as tie
 
 abbrev Inv-loop : tie.InvT-loop
 Inv-loop slots end stirred₀ n₀ stirred n = (n ≤ slots) × (stirred ≡ stir-all end n stirred₀)
