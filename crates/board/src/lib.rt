@@ -441,8 +441,11 @@ pub fn unmet<'a>(
     let mut unmet = no_numbers();
     let mut e: usize = 0;
     while e < edges {
-        let k = wide(condition[e]);
-        unmet[e] = is_unmet(kind[e], value[k]);
+        let when = kind[e];
+        if when != 0 {
+            let k = wide(condition[e]);
+            unmet[e] = is_unmet(when, value[k]);
+        }
         e += 1;
     }
     unmet

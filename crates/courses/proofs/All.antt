@@ -54,14 +54,14 @@ pub record Sofar (b : Board) (n latest : ℕ) (comes place since notes passed : 
   pub passed-few : (k : ℕ) → k < b .slots → getD passed k 0 ≤ 198 * n
   pub first : (p : Lines) → plan-refusal p ≡ nothing → Boarded p b → First p (b .span) n latest comes place since notes passed
 
-pub sofar-start : (b : Board) (comes place since : List ℕ) {notes passed : List ℕ} → length comes ≡ 12672 → length place ≡ 12672 → length since ≡ 64 → notes ≡ replicate 3584 0 → passed ≡ replicate 8 0 →
+pub sofar-start : (b : Board) (comes place since : List ℕ) {notes passed : List ℕ} → length comes ≡ 12672 → length place ≡ 12672 → length since ≡ 64 → length notes ≡ 3584 → passed ≡ replicate 8 0 →
     Sofar b 0 0 comes place since notes passed
 sofar-start b comes place since c d s m e =
     record {
       comes-long = c;
       place-long = d;
       since-long = s;
-      notes-long = ap length m ∙ length-replicate {A = ℕ} 3584 0;
+      notes-long = m;
       passed-long = ap length e ∙ length-replicate {A = ℕ} 8 0;
       passed-few = λ k l. omega (arith, ap (λ (xs : List ℕ). getD xs k 0) e, zeros-at 8 k);
       first = λ p f o.

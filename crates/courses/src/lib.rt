@@ -61,12 +61,6 @@ fn none_noted() -> [u32; 48]
     [0u32; 48]
 }
 
-fn no_notes() -> [u32; 3584]
-    ensures { λ r. ⌜ r ≡ replicate 3584 0 ⌝ }
-{
-    [0u32; 3584]
-}
-
 // Stores what an array by row holds as combination c's part of an array by combination and row.
 fn keep_rows(rows: &[u32; 198], c: usize, all: &mut [u32; 12672])
     requires { ⌜ (c < 64) × (length (now rows) ≡ 198) ⌝ }
@@ -143,7 +137,8 @@ fn store<'a>(
 }
 
 // Plans every combination: `comes` and `place` hold the log of combination c from place c * 198 on. Its rows that start before clock `since[c]` are taken
-// over from an earlier combination.
+// over from an earlier combination. `notes` is made of ones, since zeros would be cleared byte by byte and ones are stored 16 bytes at a time; none is read before
+// its combination is stored.
 pub fn all_courses(
     b: Board,
     comes: &mut [u32; 12672],
@@ -154,7 +149,7 @@ pub fn all_courses(
     ensures { λ r. ⌜ ((p : Lines) → plan-refusal p ≡ nothing → Boarded p b → Planned-all p (b .span) r (now (comes .exit)) (now (place .exit)) (now (since .exit))) ⌝ }
 {
     let n = how_many(b.conditions);
-    let mut notes = no_notes();
+    let mut notes = [1u32; 3584];
     let mut passed = no_counts();
     let mut latest: u32 = 0;
     let mut c: usize = 0;

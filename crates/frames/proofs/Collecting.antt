@@ -1,8 +1,8 @@
--- Frames put in order, entry by entry and row by row: what is left to put gives the whole.
+-- Frames put in order, tick by tick of a row and row by row: what is left to put gives the whole.
 -- Assumes nothing.
 use mathlib.Core.Path.{_≡_, refl, sym, ap, subst, _∙_}
-use mathlib.Core.List.{List, _∷_, map}
-use Prim.Native.Nat.{ℕ, zero, suc, _+_, _-_, _≤_, _<_, max}
+use mathlib.Core.List.{List, [], _∷_, map}
+use Prim.Native.Nat.{ℕ, zero, suc, _+_, _-_, _/_, _≤_, _<_, max}
 use native.Mathlib.Numerals.{add-one}
 use native.Mathlib.Omega.{arith}
 use lib.ListN.{length, getD, take}
@@ -13,38 +13,86 @@ use Rattle.lists.proofs.Loops.{upfrom-next, upfrom-end}
 use Rattle.lists.proofs.Order.{Ascending}
 use Rattle.ascending.specs.Among.{multiple, Added}
 use Rattle.ascending.proofs.Putting.{put-all-append}
-use Rattle.ascending.proofs.Multiples.{numbers-ascend}
+use Rattle.ascending.proofs.Multiples.{numbers-ascend, put-joined}
 use Rattle.ascending.proofs.Places.{added-ascends, added-one}
 use Rattle.frames.specs.Packed.{entry-frame, in-order, Collected, Rows, row-frames, packed-frames}
 
--- The entries of a row: those from place i on are left to put.
+-- The entries of a row: a frame y is still to be put, and then those of the entries from place i on.
 module _ (f : ℕ → ℕ) (list : List ℕ) (to : ℕ) (whole : List ℕ) (most : ℕ) where
-  pub record Row-left (out : List ℕ) (m i : ℕ) : Type 0 where
+  pub record Row-left (out : List ℕ) (m y i : ℕ) : Type 0 where
     pub inside : i ≤ to
-    pub room : m + (to - i) ≤ most
+    pub room : m + 1 + (to - i) ≤ most
     pub long : length out ≡ 12672
     pub ascends : Ascending (multiple 1024) (take m out)
-    pub gives : in-order (map f (slice i to list)) (take m out) ≡ whole
+    pub gives : in-order (y ∷ map f (slice i to list)) (take m out) ≡ whole
 
-  pub row-left-next : {out after : List ℕ} {m i end : ℕ} → i < to → to ≤ length list → most ≤ 12672 → Row-left out m i → Added 1024 (f (getD list i 0)) out after 0 m end → Row-left after end (i + 1)
+  -- the next entry, and those behind it
+  part-next : (i : ℕ) → i < to → to ≤ length list → map f (slice i to list) ≡ f (getD list i 0) ∷ map f (slice (i + 1) to list)
+  part-next i l h = ap (map f) (slice-cons i to list 0 l h ∙ ap (λ (k : ℕ). getD list i 0 ∷ slice k to list) (sym (add-one i)))
+
+  -- one frame more of the tick of y
+  pub row-left-joined : {out after : List ℕ} {m n y v i : ℕ} → i < to → to ≤ length list → Row-left out m y i → f (getD list i 0) / 1024 ≡ y / 1024 →
+      after ≡ out → n ≡ m → v ≡ max (f (getD list i 0)) y → Row-left after n v (i + 1)
   unfolding put-all
-  row-left-next {out} {after} {m} {i} {end} l h fits w a =
+  row-left-joined {out} {after} {m} {n} {y} {v} {i} l h w e s t u =
+      let rest : List ℕ = map f (slice (i + 1) to list) in
+      record {
+        inside = omega arith;
+        room = omega (arith, w .room);
+        long = ap length s ∙ w .long;
+        ascends = subst (Ascending (multiple 1024)) (sym (λ j. take (t j) (s j))) (w .ascends);
+        gives =
+            (λ j. in-order (u j ∷ rest) (take (t j) (s j))) ∙ ap (in-order rest) (sym (put-joined 1024 (f (getD list i 0)) y (take m out) e))
+            ∙ sym (ap (λ (r : List ℕ). in-order (y ∷ r) (take m out)) (part-next i l h)) ∙ w .gives;
+      }
+
+  -- y is put, and the next frame is of another tick
+  pub row-left-next : {out after later : List ℕ} {m n y v i end : ℕ} → i < to → to ≤ length list → most ≤ 12672 → Row-left out m y i → Added 1024 y out after 0 m end →
+      later ≡ after → n ≡ end → v ≡ f (getD list i 0) → Row-left later n v (i + 1)
+  unfolding put-all
+  row-left-next {out} {after} {later} {m} {n} {y} {v} {i} {end} l h fits w a s t u =
       let o = added-one a (omega arith) (omega (arith, w .long, w .room)) in
-      let e : slice i to list ≡ getD list i 0 ∷ slice (i + 1) to list =
-      slice-cons i to list 0 l h ∙ ap (λ (k : ℕ). getD list i 0 ∷ slice k to list) (sym (add-one i)) in
+      let rest : List ℕ = map f (slice (i + 1) to list) in
       record {
         inside = omega arith;
         room = omega (arith, w .room, o .1);
-        long = a .long ∙ w .long;
-        ascends = added-ascends a (w .ascends);
-        gives = ap (in-order (map f (slice (i + 1) to list))) (a .holds) ∙ sym (ap (λ (s : List ℕ). in-order (map f s) (take m out)) e) ∙ w .gives;
+        long = ap length s ∙ a .long ∙ w .long;
+        ascends = subst (Ascending (multiple 1024)) (sym (λ j. take (t j) (s j))) (added-ascends a (w .ascends));
+        gives =
+            (λ j. in-order (u j ∷ rest) (take (t j) (s j))) ∙ ap (in-order (f (getD list i 0) ∷ rest)) (a .holds)
+            ∙ sym (ap (λ (r : List ℕ). in-order (y ∷ r) (take m out)) (part-next i l h)) ∙ w .gives;
       }
 
-  pub row-left-end : {out : List ℕ} {m i : ℕ} → to ≤ i → Row-left out m i → take m out ≡ whole
+  -- y is the last
+  pub row-left-end : {out after : List ℕ} {m y i end : ℕ} → to ≤ i → most ≤ 12672 → Row-left out m y i → Added 1024 y out after 0 m end →
+      (end ≤ most) × (length after ≡ 12672) × (take end after ≡ whole)
   unfolding put-all
-  row-left-end {out} {m} {i} l w =
-      let q : i ≡ to = omega (arith, w .inside) in
-      sym (ap (λ (s : List ℕ). in-order (map f s) (take m out)) (ap (λ (k : ℕ). slice k to list) q ∙ slice-empty to list)) ∙ w .gives
+  row-left-end {out} {after} {m} {y} {i} {end} l fits w a =
+      let o = added-one a (omega arith) (omega (arith, w .long, w .room)) in
+      let q : i ≡ to = omega (arith, w .inside) in (
+        omega (arith, w .room, o .1),
+        a .long ∙ w .long,
+        a .holds ∙ sym (ap (λ (s : List ℕ). in-order (y ∷ map f s) (take m out)) (ap (λ (k : ℕ). slice k to list) q ∙ slice-empty to list)) ∙ w .gives,
+      )
+
+-- the first entry of a row, and a row with none
+module _ (f : ℕ → ℕ) (list out : List ℕ) (from to n : ℕ) (inside : to ≤ length list) where
+  pub row-left-start : {y : ℕ} → from < to → length out ≡ 12672 → Ascending (multiple 1024) (take n out) → y ≡ f (getD list from 0) →
+      Row-left f list to (in-order (map f (slice from to list)) (take n out)) (n + (to - from)) out n y (from + 1)
+  row-left-start l long ascends e =
+      record {
+        inside = omega arith;
+        room = omega arith;
+        long = long;
+        ascends = ascends;
+        gives =
+            ap (λ (v : ℕ). in-order (v ∷ map f (slice (from + 1) to list)) (take n out)) e
+            ∙ sym (ap (λ (r : List ℕ). in-order r (take n out)) (part-next f list to [] 0 from l inside));
+      }
+
+  pub row-empty : from ≡ to → take n out ≡ in-order (map f (slice from to list)) (take n out)
+  unfolding put-all
+  row-empty q = sym (ap (λ (s : List ℕ). in-order (map f s) (take n out)) (ap (λ (k : ℕ). slice k to list) q ∙ slice-empty to list))
 
 -- The rows: those from row q on are left to put.
 pub record Rows-left (list ends node bytes : List ℕ) (processes rows : ℕ) (out : List ℕ) (n q : ℕ) : Type 0 where

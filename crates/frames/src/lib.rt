@@ -2,7 +2,7 @@
 use ascending::put;
 ghost use mathlib.Core.Path.{_≡_};
 ghost use mathlib.Core.List.{map};
-ghost use Prim.Native.Nat.{ℕ, _+_, _-_, _*_, _/_, _<_, _≤_};
+ghost use Prim.Native.Nat.{ℕ, max, _+_, _-_, _*_, _/_, _^_, _<_, _≤_};
 ghost use lib.ListN.{getD, length, take};
 ghost use lib.Seq.{slice};
 ghost use Rattle.lists.specs.Front.{front};
@@ -29,23 +29,32 @@ fn word(x: u64) -> u32
     x as u32
 }
 
+fn greater(x: u64, y: u64) -> u64
+    ensures { λ r. ⌜ r ≡ max x y ⌝ }
+{
+    if x < y {
+        return y;
+    }
+    x
+}
+
 // The number of the frame of an entry: its tick, its node, and its last used byte counted from 1.
 fn frame(x: u64, node: u32, bytes: u32) -> u64
-    ensures { λ r. ⌜ r ≡ entry-frame node bytes x ⌝ }
+    ensures { λ r. ⌜ (r ≡ entry-frame node bytes x) × (r < 2 ^ 57) ⌝ }
 {
     x / 262144 * 1024 + long(node) * 128 + (x % 64 + long(bytes))
 }
 
-// Puts the frame of an entry among the first n frames of `out`.
-fn add(x: u64, node: u32, bytes: u32, out: &mut [u64; 12672], n: usize) -> usize
-    requires { ⌜ (n < 12672) × (length (now out) ≡ 12672) × Ascending (multiple 1024) (take n (now out)) ⌝ }
-    ensures { λ r. ⌜ Added 1024 (entry-frame node bytes x) (now (out .entry)) (now (out .exit)) 0 n r ⌝ }
+// Puts a frame among the first n frames of `out`.
+fn add(y: u64, out: &mut [u64; 12672], n: usize) -> usize
+    requires { ⌜ (y < 2 ^ 57) × (n < 12672) × (length (now out) ≡ 12672) × Ascending (multiple 1024) (take n (now out)) ⌝ }
+    ensures { λ r. ⌜ Added 1024 y (now (out .entry)) (now (out .exit)) 0 n r ⌝ }
 {
-    let y = frame(x, node, bytes);
     put(out, 0, n, y / 1024 * 1024, 1024, y)
 }
 
-// Puts the frames of the entries list[from .. to], which are of one row, among the first n frames of `out`.
+// Puts the frames of the entries list[from .. to], which are of one row, among the first n frames of `out`: of entries of one tick that stand next to each
+// other the greatest frame, once.
 fn collect_row(
     list: &[u64; 12672],
     from: usize,
@@ -58,13 +67,23 @@ fn collect_row(
     requires { ⌜ (from ≤ to) × (to ≤ 12672) × (n + (to - from) ≤ 12672) × (length (now list) ≡ 12672) × (length (now out) ≡ 12672) × Ascending (multiple 1024) (take n (now out)) ⌝ }
     ensures { λ r. ⌜ Collected (map (entry-frame node bytes) (slice from to (now (list .entry)))) (take n (now (out .entry))) (now (out .exit)) (n + (to - from)) r ⌝ }
 {
+    if to <= from {
+        return n;
+    }
     let mut m = n;
-    let mut i = from;
+    let mut y = frame(list[from], node, bytes);
+    let mut i = from + 1;
     while i < to {
-        m = add(list[i], node, bytes, out, m);
+        let x = frame(list[i], node, bytes);
+        if x / 1024 == y / 1024 {
+            y = greater(x, y);
+        } else {
+            m = add(y, out, m);
+            y = x;
+        }
         i += 1;
     }
-    m
+    add(y, out, m)
 }
 
 // The frames of the entries of rows `processes` up to `rows`, by ascending ticks, at the front of `out`; how many there are.

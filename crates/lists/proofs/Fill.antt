@@ -1,6 +1,6 @@
 -- An array filled one by one: what one store adds, its length, and what stands where.
 -- Assumes nothing.
-use mathlib.Core.Path.{_≡_, refl, _∙_}
+use mathlib.Core.Path.{_≡_, refl, sym, _∙_}
 use mathlib.Core.Logic.{_⊎_, inl, inr}
 use mathlib.Core.List.{List}
 use Prim.Native.Nat.{ℕ, zero, suc, _+_, _≤_, _<_}
@@ -8,7 +8,7 @@ use native.Mathlib.Nat.{not-suc-le-zero}
 use native.Mathlib.Numerals.{add-one}
 use native.Mathlib.Omega.{arith}
 use lib.ListN.{length, getD, set, replicate, length-set, length-replicate}
-use lib.Seq.{getD-set-same, getD-set-other}
+use lib.Seq.{getD-set-same, getD-set-other, set-getD}
 use Rattle.lists.specs.Lists.{fill}
 use Rattle.lists.proofs.Tests.{below-suc}
 
@@ -48,3 +48,7 @@ module _ (size : ℕ) (f : ℕ → ℕ) where
   unfolding fill
   fill-past zero k l = zeros-at size k
   fill-past (suc n) k l = getD-set-other (fill size f n) n k (f n) 0 (λ q. omega arith) ∙ fill-past n k (omega arith)
+
+  -- a 0 need not be stored
+  pub fill-skips : (n : ℕ) {xs : List ℕ} → xs ≡ fill size f n → f n ≡ 0 → xs ≡ fill size f (n + 1)
+  fill-skips n e z = e ∙ sym (set-getD (fill size f n) n 0) ∙ fill-next size f n refl (fill-past n n (omega arith) ∙ sym z)

@@ -1,15 +1,15 @@
--- What is left of a list from a place on, a part in the middle of lists joined, numbers in two runs, and how many a test keeps.
+-- What is left of a list from a place on, a part in the middle of lists joined, a part after a store before, behind or at its end, numbers in two runs, and how many a test keeps.
 -- Assumes nothing.
 use mathlib.Core.Path.{_≡_, sym, ap, _∙_}
 use mathlib.Core.Logic.{_⊎_, inl, inr}
 use mathlib.Core.Bool.{true, false}
 use mathlib.Core.List.{List, [], _∷_, _++_}
-use Prim.Native.Nat.{ℕ, zero, suc, _+_, _<_}
+use Prim.Native.Nat.{ℕ, zero, suc, _+_, _<_, _≤_}
 use native.Mathlib.Numerals.{add-one}
 use native.Mathlib.Omega.{arith}
 use lib.Dec.{eqb, ltb}
-use lib.ListN.{length, getD, take, drop}
-use lib.Seq.{slice, drop-cons, take-append-add, take-append-seam, drop-append-seam}
+use lib.ListN.{length, getD, set, take, drop}
+use lib.Seq.{slice, drop-cons, take-append-add, take-append-seam, drop-append-seam, drop-append-le, length-take-le, take-set-le, take-set-lt, drop-set-lt, take-suc-set}
 use borrow.Author.Tests.{eqb-true, eqb-false, ltb-true, ltb-false, lt-ltb, le-ltb}
 use Rattle.lists.specs.Lists.{keep, upfrom}
 use Rattle.lists.proofs.Tests.{two}
@@ -19,6 +19,19 @@ drop-one xs i l = drop-cons xs i 0 l ∙ ap (λ (n : ℕ). getD xs i 0 ∷ drop 
 
 pub middle : (a b c : List ℕ) → slice (length a) (length a + length b) (a ++ (b ++ c)) ≡ b
 middle a b c = ap (drop (length a)) (take-append-add a (b ++ c) (length b)) ∙ drop-append-seam a (take (length b) (b ++ c)) ∙ take-append-seam b c
+
+-- a part after a store: before the part, behind it, and at its end
+module _ (l : List ℕ) (e x : ℕ) where
+  pub slice-before : (a b : ℕ) → e < a → a ≤ b → slice a b (set l e x) ≡ slice a b l
+  slice-before a b h k = ap (drop a) (take-set-lt b l e x (omega arith)) ∙ drop-set-lt a (take b l) e x h
+
+  pub slice-behind : (a b : ℕ) → b ≤ e → slice a b (set l e x) ≡ slice a b l
+  slice-behind a b h = ap (drop a) (take-set-le b l e x h)
+
+  pub slice-end : (a : ℕ) → a ≤ e → e < length l → slice a (e + 1) (set l e x) ≡ slice a e l ++ (x ∷ [])
+  slice-end a h k =
+      ap (λ (n : ℕ). slice a n (set l e x)) (add-one e) ∙ ap (drop a) (take-suc-set l e x k)
+      ∙ drop-append-le a (take e l) (x ∷ []) (omega (arith, length-take-le e l (omega arith)))
 
 pub upfrom-append : (a n m : ℕ) → upfrom a (n + m) ≡ upfrom a n ++ upfrom (a + n) m
 upfrom-append a zero m =

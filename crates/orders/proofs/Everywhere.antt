@@ -1,12 +1,10 @@
--- What holds at every place of an array: of one that is filled number by number, of a list behind another, and of the rest of a list.
+-- What holds at every place of an array that is filled number by number.
 -- Assumes nothing.
-use mathlib.Core.Path.{_≡_, refl, sym, subst}
+use mathlib.Core.Path.{_≡_, sym, subst}
 use mathlib.Core.Logic.{_⊎_, inl, inr}
 use mathlib.Core.Bool.{true, false}
-use mathlib.Core.List.{List, [], _∷_, _++_, List·Memᴰ as In, List·Memᴰ·head as here, List·Memᴰ·tail as there}
-use Prim.Native.Nat.{ℕ, zero, suc, _≤_, _<_}
+use Prim.Native.Nat.{ℕ, _≤_, _<_}
 use lib.Dec.{ltb}
-use lib.ListN.{drop}
 use borrow.Author.Tests.{ltb-true, ltb-false}
 use Rattle.lists.specs.Lists.{fill}
 use Rattle.lists.proofs.Tests.{two}
@@ -24,13 +22,3 @@ fill-each P size f n u h z k = by (two (ltb k n))
 
 pub fill-all : (P : ℕ → Type 0) (size : ℕ) (f : ℕ → ℕ) (n : ℕ) → n ≤ size → ((k : ℕ) → k < n → P (f k)) → P 0 → (k : ℕ) → P (at (fill size f n) k)
 fill-all P size f n u h z = fill-each (λ k. P) size f n u h (λ k l. z)
-
-pub append-all : (bound : ℕ) (xs ys : List ℕ) → ((x : ℕ) → In x xs → x < bound) → ((j : ℕ) → at ys j < bound) → (j : ℕ) → at (xs ++ ys) j < bound
-append-all bound [] ys h r j = r j
-append-all bound (x ∷ xs) ys h r zero = h x (here refl)
-append-all bound (x ∷ xs) ys h r (suc j) = append-all bound xs ys (λ y m. h y (there m)) r j
-
-pub drop-all : (bound : ℕ) (xs : List ℕ) → ((j : ℕ) → at xs j < bound) → (n j : ℕ) → at (drop n xs) j < bound
-drop-all bound xs h zero j = h j
-drop-all bound [] h (suc n) j = h 0
-drop-all bound (x ∷ xs) h (suc n) j = drop-all bound xs (λ i. h (suc i)) n j

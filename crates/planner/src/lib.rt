@@ -42,18 +42,6 @@ pub enum Planned {
     Refused(u32),
 }
 
-fn no_rows() -> [u32; 12672]
-    ensures { λ r. ⌜ r ≡ replicate 12672 0 ⌝ }
-{
-    [0u32; 12672]
-}
-
-fn no_numbers() -> [u64; 12672]
-    ensures { λ r. ⌜ r ≡ replicate 12672 0 ⌝ }
-{
-    [0u64; 12672]
-}
-
 fn no_places() -> [u32; 199]
     ensures { λ r. ⌜ r ≡ replicate 199 0 ⌝ }
 {
@@ -130,7 +118,8 @@ fn write_both<'a>(
     true
 }
 
-// Lists the entries and the frames of the table, and writes both where the lent words suffice.
+// Lists the entries and the frames of the table, and writes both where the lent words suffice. The lists are made of ones, since zeros would be cleared byte by
+// byte and ones are stored 16 bytes at a time; none is read before it is stored.
 fn write_all<'a>(
     b: Board,
     t: Totals,
@@ -143,13 +132,13 @@ fn write_all<'a>(
     requires { ⌜ Some-plans b t (now comes) (now place) (now since) ⌝ }
     ensures { λ r. ⌜ ((p : Lines) → plan-refusal p ≡ nothing → Boarded p b → Planned-all p (b .span) t (now (comes .entry)) (now (place .entry)) (now (since .entry)) → Answers p r (now (table .entry)) (now (frames .entry)) (now (table .exit)) (now (frames .exit))) ⌝ }
 {
-    let mut list = no_numbers();
+    let mut list = [1u64; 12672];
     let mut ends = no_places();
     let count = list_entries(b, comes, place, since, &mut list, &mut ends);
     if table.len() < 5 * count {
         return Planned::Refused(10);
     }
-    let mut out = no_numbers();
+    let mut out = [1u64; 12672];
     let used = collect(
         &list,
         &ends,
@@ -172,14 +161,15 @@ fn write_all<'a>(
     Planned::Refused(11)
 }
 
-// Plans a plan in which refusals 2 to 9 find nothing.
+// Plans a plan in which refusals 2 to 9 find nothing. `comes` and `place` are made of ones, since zeros would be cleared byte by byte and ones are stored 16 bytes
+// at a time; none is read before its combination is stored.
 fn plan_accepted(p: Plan, table: &mut [u32], frames: &mut [u32]) -> Planned
     requires { ⌜ plan-refusal (lines p) ≡ nothing ⌝ }
     ensures { λ r. ⌜ Answers (lines p) r (now (table .entry)) (now (frames .entry)) (now (table .exit)) (now (frames .exit)) ⌝ }
 {
     let b = of_plan(p);
-    let mut comes = no_rows();
-    let mut place = no_rows();
+    let mut comes = [1u32; 12672];
+    let mut place = [1u32; 12672];
     let mut since = no_clocks();
     let t = all_courses(b, &mut comes, &mut place, &mut since);
     write_all(b, t, &comes, &place, &since, table, frames)

@@ -17,20 +17,6 @@ ghost use Rattle.plan.specs.Memory.{lines};
 ghost use Rattle.listing.specs.Answer.{answer-of, written-of};
 ghost use Rattle.program.specs.Prints.{Prints, Prints-all};
 
-// The words of 3,000 entries, which the program lends for a table.
-fn entry_room() -> [u32; 15000]
-    ensures { λ r. ⌜ length r ≡ 15000 ⌝ }
-{
-    [0u32; 15000]
-}
-
-// The words of 2,000 frames, which the program lends for a frame list.
-fn frame_room() -> [u32; 6000]
-    ensures { λ r. ⌜ length r ≡ 6000 ⌝ }
-{
-    [0u32; 6000]
-}
-
 // Plans a plan into lent words, and writes its listing, or the line of its refusal, to the front of lent bytes.
 fn print_planned(p: Plan, table: &mut [u32], frames: &mut [u32], out: &mut [u8]) -> Listed
     ensures answer { λ r. ⌜ r ≡ answer-of (written-of (length (now (out .entry))) (printed (lines p) (plan-answer (lines p) (length (now (table .entry))) (length (now (frames .entry)))))) ⌝ }
@@ -56,7 +42,7 @@ fn print_planned(p: Plan, table: &mut [u32], frames: &mut [u32], out: &mut [u8])
 
 // Writes what the planning program prints for a text of any bytes to the front of the lent bytes: the listing, with 3,000 entries and 2,000 frames lent to
 // the planner, or the line of a refusal, 1 to 11. How many bytes were written; or refusal 10, where what is printed needs more bytes than lent, which
-// leaves the bytes unchanged.
+// leaves the bytes unchanged. The lent words are made as ones, since zeros would be cleared byte by byte and ones are stored 16 bytes at a time.
 pub fn print_plan(text: &[u8], out: &mut [u8]) -> Listed
     ensures { λ r. ⌜ Prints (now (text .entry)) (now (out .entry)) (now (out .exit)) r ⌝ }
 {
@@ -66,8 +52,8 @@ pub fn print_plan(text: &[u8], out: &mut [u8]) -> Listed
         Refusal::Refused(n) => write_refusal(n, out),
         Refusal::Nothing => {
             let p = read.plan;
-            let mut table = entry_room();
-            let mut frames = frame_room();
+            let mut table = [1u32; 15000];
+            let mut frames = [1u32; 6000];
             print_planned(p, &mut table, &mut frames, out)
         }
     }

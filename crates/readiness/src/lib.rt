@@ -256,7 +256,7 @@ fn runs<'a>(
 
 // 1 for true, 0 for false.
 fn number(b: bool) -> u32
-    ensures { λ r. ⌜ r ≡ bit b ⌝ }
+    ensures { λ r. ⌜ (r ≡ bit b) × (r ≤ 1) ⌝ }
 {
     if b {
         return 1;
@@ -288,11 +288,28 @@ pub fn may_run<'a>(
     run
 }
 
+// The mask of six conditions whose values have arrived by the clock, condition 0 the lowest bit, with no loop.
+fn six_known(rows: &[u32], base: usize, u: u32) -> u32
+    requires { ⌜ base + 6 ≤ length (now rows) ⌝ }
+    ensures { λ r. ⌜ (r ≡ known-by (now (rows .entry)) base 6 u) × (r < 64) ⌝ }
+{
+    let a = number(came(rows[base], u));
+    let b = number(came(rows[base + 1], u));
+    let c = number(came(rows[base + 2], u));
+    let d = number(came(rows[base + 3], u));
+    let e = number(came(rows[base + 4], u));
+    let f = number(came(rows[base + 5], u));
+    a + b * 2 + c * 4 + d * 8 + e * 16 + f * 32
+}
+
 // The mask of the conditions whose values have arrived by the clock, condition 0 the lowest bit. The row of condition 0 stands at `base`.
 pub fn known(rows: &[u32], base: usize, conditions: usize, u: u32) -> u32
     requires { ⌜ (base + conditions ≤ length (now rows)) × (conditions ≤ 6) ⌝ }
     ensures { λ r. ⌜ (r ≡ known-by (now (rows .entry)) base conditions u) × (r < 64) ⌝ }
 {
+    if conditions == 6 {
+        return six_known(rows, base, u);
+    }
     let mut mask: u32 = 0;
     let mut k = conditions;
     while 0 < k {

@@ -1,12 +1,13 @@
--- `board::unmet` meets its contract: before turn e the first e are filled.
+-- `board::unmet` meets its contract: before turn e the first e are filled, and where there is no `when` the 0 stands already.
 -- Assumes nothing.
 use mathlib.Core.Path.{_≡_, ap, _∙_}
+use mathlib.Core.Logic.{⊎-elim}
 use mathlib.Core.List.{List}
 use Prim.Native.Nat.{ℕ, _≤_, _-_}
 use native.Mathlib.Omega.{arith}
 use borrow.Author.Needs.{needs}
 use Rattle.lists.specs.Lists.{fill}
-use Rattle.lists.proofs.Fill.{fill-at, fill-next}
+use Rattle.lists.proofs.Fill.{fill-at, fill-next, fill-skips}
 use Rattle.plan.specs.Refusing.{at}
 use Rattle.board.specs.Layout.{unmet-of, value-of, unmet-by}
 use Rattle.board.proofs.unmet.Statement.{statement}
@@ -28,6 +29,12 @@ loop-holds : tie.Need-loop-holds Inv-loop μ-loop
 unfolding fill
 loop-holds c = search needs
 
+mul-when : tie.Need-mul-when Inv-loop μ-loop
+mul-when c = search needs
+
+element-copy-out-when : tie.Need-element-copy-out-when Inv-loop μ-loop
+element-copy-out-when c = search needs
+
 mul-wide : tie.Need-mul-wide Inv-loop μ-loop
 mul-wide c = search needs
 
@@ -38,20 +45,14 @@ wide-requires : tie.Need-wide-requires Inv-loop μ-loop
 wide-requires c κs = search needs
 
 mul-is-unmet : tie.Need-mul-is-unmet Inv-loop μ-loop
-mul-is-unmet c = search needs
-
-element-copy-out-is-unmet : tie.Need-element-copy-out-is-unmet Inv-loop μ-loop
-element-copy-out-is-unmet c = search needs
-
-mul-is-unmet-2 : tie.Need-mul-is-unmet-2 Inv-loop μ-loop
-mul-is-unmet-2 c =
-    let at-loop = c .before .before .before .before in
-    omega (arith, at-loop .before .before .before .pre .1 (at-loop .loop .e), c .before .wide .ensures)
+mul-is-unmet c =
+    let at-loop = c .before .before .before .before .before in
+    omega (arith, at-loop .before .before .before .pre .1 (at-loop .loop .e), c .wide .ensures)
 
 array-read-is-unmet : tie.Need-array-read-is-unmet Inv-loop μ-loop
 array-read-is-unmet c =
-    let at-loop = c .before .before .before .before in
-    omega (arith, at-loop .before .before .before .pre .1 (at-loop .loop .e), c .before .wide .ensures)
+    let at-loop = c .before .before .before .before .before in
+    omega (arith, at-loop .before .before .before .pre .1 (at-loop .loop .e), c .wide .ensures)
 
 is-unmet-requires : tie.Need-is-unmet-requires Inv-loop μ-loop
 is-unmet-requires c κs = search needs
@@ -70,17 +71,20 @@ loop-less c = search needs
 
 loop-again : tie.Need-loop-again Inv-loop μ-loop
 loop-again c =
-    let at-loop = c .before .before .before .before .before in
+    let at-loop = c .before .before .before in
     let valued = at-loop .before .before in
     let a = valued .before .args in
     let l = at-loop .loop in
     let k : ℕ = at (a .condition .now) (l .e) in
-    let value =
-    ap (at (valued .values .result)) (c .before .before .wide .ensures)
-    ∙ ap (λ (v : List ℕ). at v k) (valued .values .ensures)
-    ∙ fill-at 6 (value-of (a .combination)) 6 k (omega arith) (valued .before .pre .1 (l .e)) in
-    let told = c .is-unmet .ensures ∙ ap (unmet-of (at (a .kind .now) (l .e))) value in
-    (search needs, fill-next 128 (λ k. unmet-of (at (a .kind .now) k) (value-of (a .combination) (at (a .condition .now) k))) (l .e) (l .inv .1) told)
+    let f : ℕ → ℕ = λ k. unmet-of (at (a .kind .now) k) (value-of (a .combination) (at (a .condition .now) k)) in
+    let known : at (valued .values .result) k ≡ value-of (a .combination) k =
+    ap (λ (v : List ℕ). at v k) (valued .values .ensures) ∙ fill-at 6 (value-of (a .combination)) 6 k (omega arith) (valued .before .pre .1 (l .e)) in (
+      (let t = c .before .before .loop-test .taken in omega arith),
+      ⊎-elim
+          (λ u. u .4 ∙ fill-next 128 f (l .e) (l .inv .1) (u .3 .ensures ∙ ap (unmet-of (at (a .kind .now) (l .e))) (ap (at (valued .values .result)) (u .2 .ensures) ∙ known)))
+          (λ u. u .1 ∙ fill-skips 128 f (l .e) (l .inv .1) (ap (λ (n : ℕ). unmet-of n (value-of (a .combination) k)) (u .0 .left)))
+          (c .if1 .came),
+    )
 
 returns : tie.Need-returns Inv-loop μ-loop
 unfolding unmet-by
@@ -98,12 +102,12 @@ unmet-spec =
     values-requires
     no-numbers-requires
     loop-holds
+    mul-when
+    element-copy-out-when
     mul-wide
     element-copy-out-wide
     wide-requires
     mul-is-unmet
-    element-copy-out-is-unmet
-    mul-is-unmet-2
     array-read-is-unmet
     is-unmet-requires
     mul-unmet

@@ -4,7 +4,7 @@ use mathlib.Core.Path.{_≡_, sym, _∙_, subst}
 use Prim.Native.Nat.{ℕ, _≤_, _<_, _^_, _-_}
 use native.Mathlib.Omega.{arith}
 use borrow.Author.Needs.{needs}
-use lib.ListN.{length}
+use lib.ListN.{length, length-replicate}
 use Rattle.model.specs.Plan.{Lines}
 use Rattle.board.specs.declared.Board.{Board}
 use Rattle.board.specs.Board.{Boarded}
@@ -25,13 +25,13 @@ abbrev μ-loop : tie.MeasureT-loop
 
 -- the board, and the number of a turn's combination
 abbrev board : tie.At-loop Inv-loop μ-loop → Board
-board l = l .before .before .before .before .args .t1
+board l = l .before .before .before .args .t1
 
 few : (i : tie.In-loop Inv-loop μ-loop) → i .before .loop .c < 64
-few i = omega (arith, i .before .before .before .before .how-many .ensures .1, i .loop-test .taken)
+few i = omega (arith, i .before .before .before .how-many .ensures .1, i .loop-test .taken)
 
 within : (i : tie.In-loop Inv-loop μ-loop) → i .before .loop .c < 2 ^ board (i .before) .conditions
-within i = omega (arith, i .before .before .before .before .how-many .ensures .0, i .loop-test .taken)
+within i = omega (arith, i .before .before .before .how-many .ensures .0, i .loop-test .taken)
 
 among : (i : tie.In-loop Inv-loop μ-loop) (p : Lines) → Boarded p (board (i .before)) → i .before .loop .c < 2 ^ length (p .conditions)
 among i p o = subst (λ (k : ℕ). i .before .loop .c < 2 ^ k) (o .conditions-count) (within i)
@@ -52,16 +52,13 @@ planned c = c .before .before .before .before .before .before .before .before .b
 how-many-requires : tie.Need-how-many-requires Inv-loop μ-loop
 how-many-requires c κs = c .pre .0 .boarded .few-conditions
 
-no-notes-requires : tie.Need-no-notes-requires Inv-loop μ-loop
-no-notes-requires c κs = search needs
-
 no-counts-requires : tie.Need-no-counts-requires Inv-loop μ-loop
 no-counts-requires c κs = search needs
 
 loop-holds : tie.Need-loop-holds Inv-loop μ-loop
 loop-holds c =
-    let s = c .before .before .before in
-    (omega arith, sofar-start (s .args .t1) (s .args .comes .now) (s .args .place .now) (s .args .since .now) (s .pre .1 .0) (s .pre .1 .1) (s .pre .1 .2) (c .before .no-notes .ensures) (c .no-counts .ensures))
+    let s = c .before .before in
+    (omega arith, sofar-start (s .args .t1) (s .args .comes .now) (s .args .place .now) (s .args .since .now) (s .pre .1 .0) (s .pre .1 .1) (s .pre .1 .2) (length-replicate {A = ℕ} 3584 1) (c .no-counts .ensures))
 
 no-rows-requires : tie.Need-no-rows-requires Inv-loop μ-loop
 no-rows-requires c κs = search needs
@@ -83,7 +80,7 @@ resume-requires c κs =
     let z = c .before .before .before .before .before .before .before .before .before .before .before in
     let i = begun c in
     let l = i .before in
-    let d = l .before .before .before .before .pre .0 in
+    let d = l .before .before .before .pre .0 in
     let f = fits (d .plan) (d .passes) (board l) (d .boarded) in (
       (few i, within i, f .few-processes, f .few-rows, f .few-conditions, f .few-slots, d .boarded .node-small, l .loop .inv .1 .place-long),
       (z .before .before .before .before .no-rows .ensures, z .before .before .before .no-rows2 .ensures, z .before .before .no-counts2 .ensures, z .before .no-counts3 .ensures, z .none-noted .ensures),
@@ -93,7 +90,7 @@ cast-number : tie.Need-cast-number Inv-loop μ-loop
 cast-number c = let l = few (begun (c .before)) in omega arith
 
 unmet-requires : tie.Need-unmet-requires Inv-loop μ-loop
-unmet-requires c κs = let o = begun (c .before .before .before .before) .before .before .before .before .before .pre .0 .boarded in (o .few-edges, o .condition-small)
+unmet-requires c κs = let o = begun (c .before .before .before .before) .before .before .before .before .pre .0 .boarded in (o .few-edges, o .condition-small)
 
 course-requires : tie.Need-course-requires Inv-loop μ-loop
 unfolding from-clock
@@ -102,7 +99,7 @@ course-requires c κs =
     let r = taken u in
     let i = begun (r .before) in
     let l = i .before in
-    let d = l .before .before .before .before .pre .0 in
+    let d = l .before .before .before .pre .0 in
     let e = l .loop .inv .1 .first (d .plan) (d .passes) (d .boarded) .earlier in
     let w = resumed-ready (d .plan) (d .passes) (board l) (d .boarded) (l .loop .c) (among i (d .plan) (d .boarded)) (l .loop .comes) (l .loop .place) (l .loop .notes) e _ _ _ _ _ _ (r .resume .ensures) in (
       fits-read (board l) (u .unmet .result) (fits (d .plan) (d .passes) (board l) (d .boarded)),
@@ -121,7 +118,7 @@ store-requires c κs =
     let r = taken u in
     let i = begun (r .before) in
     let l = i .before in
-    let d = l .before .before .before .before .pre .0 in
+    let d = l .before .before .before .pre .0 in
     let p = d .plan in
     let o = d .boarded in
     let e = l .loop .inv .1 .first p (d .passes) o .earlier in
@@ -150,7 +147,7 @@ slice-aggregate-last-end c =
     let r = taken u in
     let i = begun (r .before) in
     let l = i .before in
-    let d = l .before .before .before .before .pre .0 in
+    let d = l .before .before .before .pre .0 in
     let p = d .plan in
     let o = d .boarded in
     let e = l .loop .inv .1 .first p (d .passes) o .earlier in
@@ -161,7 +158,7 @@ slice-aggregate-last-end c =
 last-end-requires : tie.Need-last-end-requires Inv-loop μ-loop
 last-end-requires c κs =
     let i = begun (taken (lacking (planned (c .before .before) .before)) .before) in
-    omega (arith, slice-aggregate-last-end c, i .before .before .before .before .before .pre .0 .boarded .few-processes)
+    omega (arith, slice-aggregate-last-end c, i .before .before .before .before .pre .0 .boarded .few-processes)
 
 greater-requires : tie.Need-greater-requires Inv-loop μ-loop
 greater-requires c κs = search needs
@@ -179,7 +176,7 @@ loop-again c =
     let r = taken u in
     let i = begun (r .before) in
     let l = i .before in
-    let s = l .before .before .before .before in (
+    let s = l .before .before .before in (
       (let t = i .loop-test .taken in omega (arith, t)),
       sofar-next (board l) (s .pre .0) (l .loop .c) (l .loop .latest) (c .before .last-end .result) (l .loop .comes) (l .loop .place) (l .loop .since) (l .loop .notes) (l .loop .passed) _ _ _ _ _
           (few i) (within i) (l .loop .inv .1)
@@ -192,8 +189,8 @@ loop-again c =
 returns : tie.Need-returns Inv-loop μ-loop
 returns c =
     let l = c .before in
-    let h = l .before .before .before .how-many .ensures in
-    let q : l .loop .c ≡ l .before .before .before .how-many .result = omega (arith, l .loop .inv .0, c .loop-test .left) in
+    let h = l .before .before .how-many .ensures in
+    let q : l .loop .c ≡ l .before .before .how-many .result = omega (arith, l .loop .inv .0, c .loop-test .left) in
     sofar-end (board l) (l .loop .c) (l .loop .latest) (l .loop .comes) (l .loop .place) (l .loop .since) (l .loop .notes) (l .loop .passed) (q ∙ h .0) (omega (arith, q, h .1)) (l .loop .inv .1)
 
 pub all-courses-spec : {M : Type 1} → statement M
@@ -203,7 +200,6 @@ all-courses-spec =
     Inv-loop
     μ-loop
     how-many-requires
-    no-notes-requires
     no-counts-requires
     loop-holds
     no-rows-requires

@@ -11,31 +11,25 @@ use Rattle.planner.proofs.plan_accepted.Tie as tie
 of-plan-requires : tie.Need-of-plan-requires
 of-plan-requires c κs = search needs
 
-no-rows-requires : tie.Need-no-rows-requires
-no-rows-requires c κs = search needs
-
-no-rows-requires-2 : tie.Need-no-rows-requires-2
-no-rows-requires-2 c κs = search needs
-
 no-clocks-requires : tie.Need-no-clocks-requires
 no-clocks-requires c κs = search needs
 
 all-courses-requires : tie.Need-all-courses-requires
 all-courses-requires c κs =
-    let s = c .before .before .before .before .before .before .before .before .before in (
-      record { plan = lines (s .args .p); passes = s .pre; boarded = c .before .before .before .before .before .before .of-plan .ensures },
+    let s = c .before .before .before .before .before .before .before in (
+      record { plan = lines (s .args .p); passes = s .pre; boarded = c .before .before .before .before .of-plan .ensures },
       (
-        ap length (c .before .before .before .before .before .no-rows .ensures) ∙ length-replicate {A = ℕ} 12672 0,
-        ap length (c .before .before .before .before .no-rows2 .ensures) ∙ length-replicate {A = ℕ} 12672 0,
+        length-replicate {A = ℕ} 12672 1,
+        length-replicate {A = ℕ} 12672 1,
         ap length (c .before .before .before .no-clocks .ensures) ∙ length-replicate {A = ℕ} 64 0,
       ),
     )
 
 write-all-requires : tie.Need-write-all-requires
 write-all-requires c κs =
-    let s = c .before .before .before .before .before .before .before .before .before .before .before .before .before .before .before in
+    let s = c .before .before .before .before .before .before .before .before .before .before .before .before .before in
     let p = lines (s .args .p) in
-    let o = c .before .before .before .before .before .before .before .before .before .before .before .before .of-plan .ensures in
+    let o = c .before .before .before .before .before .before .before .before .before .before .of-plan .ensures in
     record { plan = p; passes = s .pre; boarded = o; all = c .before .before .before .before .before .all-courses .ensures p (s .pre) o }
 
 same-length : tie.Need-same-length
@@ -46,9 +40,9 @@ same-length-2 c = search needs
 
 returns : tie.Need-returns
 returns c =
-    let s = c .before .before .before .before .before .before .before .before .before .before .before .before .before .before .before .before .before .before .before .before in
+    let s = c .before .before .before .before .before .before .before .before .before .before .before .before .before .before .before .before .before .before in
     let p = lines (s .args .p) in
-    let o = c .before .before .before .before .before .before .before .before .before .before .before .before .before .before .before .before .before .of-plan .ensures in
+    let o = c .before .before .before .before .before .before .before .before .before .before .before .before .before .before .before .of-plan .ensures in
     c .before .before .before .before .write-all .ensures p (s .pre) o (c .before .before .before .before .before .before .before .before .before .before .all-courses .ensures p (s .pre) o)
 
 pub plan-accepted-spec : {M : Type 1} → statement M
@@ -56,8 +50,6 @@ plan-accepted-spec =
     tie.close
     (tie.spec
     of-plan-requires
-    no-rows-requires
-    no-rows-requires-2
     no-clocks-requires
     all-courses-requires
     write-all-requires

@@ -1,5 +1,7 @@
 -- `program::print_plan` meets its contract, by those of the reader, the listing and `print_planned`.
 -- Assumes nothing.
+use Prim.Native.Nat.{ℕ}
+use lib.ListN.{length-replicate}
 use borrow.Author.Needs.{needs}
 use Rattle.program.proofs.Reading.{refused-prints, read-prints}
 use Rattle.program.proofs.print_plan.Statement.{statement}
@@ -16,12 +18,6 @@ write-refusal-requires c κs = search needs
 
 enum-told : tie.Need-enum-told
 enum-told c = search needs
-
-entry-room-requires : tie.Need-entry-room-requires
-entry-room-requires c κs = search needs
-
-frame-room-requires : tie.Need-frame-room-requires
-frame-room-requires c κs = search needs
 
 slice-aggregate-print-planned : tie.Need-slice-aggregate-print-planned
 slice-aggregate-print-planned c = search needs
@@ -47,8 +43,8 @@ same-length-2 c = search needs
 returns-2 : tie.Need-returns-2
 returns-2 c =
     let w = c .before .before .before .before .print-planned in
-    let r = c .before .before .before .before .before .before .before .before .before .before .before .before .before .read-plan in
-    read-prints _ _ _ (r .result) (r .ensures .0) _ _ _ (c .before .before .before .before .before .before .before .before .before .entry-room .ensures) (c .before .before .before .before .before .before .before .before .frame-room .ensures) (c .before .before .before .before .before .before .before .before .before .before .before .enum-told .given .1) (w .ensures .0) (w .ensures .1)
+    let r = c .before .before .before .before .before .before .before .before .before .before .before .read-plan in
+    read-prints _ _ _ (r .result) (r .ensures .0) _ _ _ (length-replicate {A = ℕ} 15000 1) (length-replicate {A = ℕ} 6000 1) (c .before .before .before .before .before .before .before .before .before .enum-told .given .1) (w .ensures .0) (w .ensures .1)
 
 pub print-plan-spec : {M : Type 1} → statement M
 print-plan-spec =
@@ -58,8 +54,6 @@ print-plan-spec =
     enum-known-refusal
     write-refusal-requires
     enum-told
-    entry-room-requires
-    frame-room-requires
     slice-aggregate-print-planned
     slice-aggregate-print-planned-2
     print-planned-requires

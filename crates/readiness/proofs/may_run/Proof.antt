@@ -53,7 +53,7 @@ loop-again : tie.Need-loop-again Inv-loop μ-loop
 loop-again c =
     let l = c .before .before .before .before in
     let a = l .before .args in
-    (omega arith, next (a .from .now) (a .cue .now) (a .unmet .now) (a .comes .now) (a .u) (a .any .now) (a .first .now) (a .into .now) (l .loop .i) (l .loop .inv .1) (c .number .ensures) (c .before .runs .ensures))
+    (omega arith, next (a .from .now) (a .cue .now) (a .unmet .now) (a .comes .now) (a .u) (a .any .now) (a .first .now) (a .into .now) (l .loop .i) (l .loop .inv .1) (c .number .ensures .0) (c .before .runs .ensures))
 
 returns : tie.Need-returns Inv-loop μ-loop
 returns c =
