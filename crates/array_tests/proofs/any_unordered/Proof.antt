@@ -1,4 +1,4 @@
--- `refusals::any_unordered` meets its contract: what is left gives the whole answer.
+-- `array_tests::any_unordered` meets its contract: what is left gives the whole answer.
 -- Assumes nothing.
 use mathlib.Core.Path.{sym}
 use Prim.Native.Nat.{_≤_, _-_}
@@ -6,8 +6,8 @@ use borrow.Author.Tests.{le-leb, lt-leb}
 use Rattle.lists.proofs.Loops.{Left, left-start, left-next, left-found, left-none}
 use Rattle.plan.specs.Refusing.{unordered-at}
 use borrow.Author.Needs.{needs}
-use Rattle.refusals.proofs.any_unordered.Statement.{statement}
-use Rattle.refusals.proofs.any_unordered.Tie as tie
+use Rattle.array_tests.proofs.any_unordered.Statement.{statement}
+use Rattle.array_tests.proofs.any_unordered.Tie as tie
 
 abbrev Inv-loop : tie.InvT-loop
 Inv-loop from to n i₀ i = (i ≤ n) × Left (unordered-at from to) n i

@@ -1,10 +1,10 @@
--- `refusals::wrong_counts` meets its contract.
+-- `line_tests::wrong_counts` meets its contract.
 -- Assumes nothing.
 use borrow.Author.Tests.{lt-ltb, le-ltb}
 use Rattle.model.specs.Refusals.{outside}
 use Rattle.plan.specs.Refusing.{counts-test}
-use Rattle.refusals.proofs.wrong_counts.Statement.{statement}
-use Rattle.refusals.proofs.wrong_counts.Tie as tie
+use Rattle.line_tests.proofs.wrong_counts.Statement.{statement}
+use Rattle.line_tests.proofs.wrong_counts.Tie as tie
 
 returns : tie.Need-returns
 unfolding counts-test outside

@@ -1,13 +1,13 @@
--- `refusals::wrong_nodes` meets its contract.
+-- `table_tests::wrong_nodes` meets its contract.
 -- Assumes nothing.
 use mathlib.Core.Path.{_≡_, sym, _∙_}
 use mathlib.Core.Bool.{true, false}
 use Rattle.lists.specs.Lists.{any, below}
 use Rattle.plan.specs.Refusing.{nodes-test, not-below-at}
-use Rattle.refusals.proofs.Below.{all-small}
+use Rattle.array_tests.proofs.Below.{all-small}
 use borrow.Author.Needs.{needs}
-use Rattle.refusals.proofs.wrong_nodes.Statement.{statement}
-use Rattle.refusals.proofs.wrong_nodes.Tie as tie
+use Rattle.table_tests.proofs.wrong_nodes.Statement.{statement}
+use Rattle.table_tests.proofs.wrong_nodes.Tie as tie
 
 -- no slot's node is too high
 slots-pass : (c : tie.Else1) → let a = c .before .before .before .before .before .args in any (not-below-at (a .t1 .node) (a .slots)) (below (a .slots)) ≡ false

@@ -1,11 +1,11 @@
--- `refusals::is_undecided` meets its contract.
+-- `line_tests::is_undecided` meets its contract.
 -- Assumes nothing.
 use native.Mathlib.Omega.{arith}
 use borrow.Author.Needs.{needs}
 use borrow.Author.Tests.{eq-eqb, ne-eqb, le-leb, lt-leb}
 use Rattle.plan.specs.Refusing.{undecided-by}
-use Rattle.refusals.proofs.is_undecided.Statement.{statement}
-use Rattle.refusals.proofs.is_undecided.Tie as tie
+use Rattle.line_tests.proofs.is_undecided.Statement.{statement}
+use Rattle.line_tests.proofs.is_undecided.Tie as tie
 
 returns : tie.Need-returns
 unfolding undecided-by

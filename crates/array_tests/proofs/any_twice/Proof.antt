@@ -1,4 +1,4 @@
--- `refusals::any_twice` meets its contract: with zeros before them, numbers are their own pairs.
+-- `array_tests::any_twice` meets its contract: with zeros before them, numbers are their own pairs.
 -- Assumes nothing.
 use mathlib.Core.Path.{ap, fun-ext, _∙_}
 use Prim.Native.Nat.{ℕ}
@@ -7,8 +7,8 @@ use Rattle.lists.specs.Lists.{any, below, earlier}
 use Rattle.lists.proofs.Fill.{zeros-at}
 use Rattle.plan.specs.Refusing.{key}
 use borrow.Author.Needs.{needs}
-use Rattle.refusals.proofs.any_twice.Statement.{statement}
-use Rattle.refusals.proofs.any_twice.Tie as tie
+use Rattle.array_tests.proofs.any_twice.Statement.{statement}
+use Rattle.array_tests.proofs.any_twice.Tie as tie
 
 slice-aggregate-any-repeat : tie.Need-slice-aggregate-any-repeat
 slice-aggregate-any-repeat c = search needs

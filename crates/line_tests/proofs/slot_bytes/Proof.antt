@@ -1,4 +1,4 @@
--- `refusals::slot_bytes` meets its contract: what is left of the slots gives the whole answer.
+-- `line_tests::slot_bytes` meets its contract: what is left of the slots gives the whole answer.
 -- Assumes nothing.
 use mathlib.Core.Path.{_≡_, sym, ap, _∙_}
 use Prim.Native.Nat.{_≤_, _-_}
@@ -7,8 +7,8 @@ use borrow.Author.Tests.{eq-eqb, ne-eqb}
 use Rattle.lists.specs.Lists.{below, upfrom}
 use Rattle.lists.proofs.Loops.{upfrom-start, upfrom-next, upfrom-end}
 use Rattle.plan.specs.Refusing.{slot-bytes}
-use Rattle.refusals.proofs.slot_bytes.Statement.{statement}
-use Rattle.refusals.proofs.slot_bytes.Tie as tie
+use Rattle.line_tests.proofs.slot_bytes.Statement.{statement}
+use Rattle.line_tests.proofs.slot_bytes.Tie as tie
 
 abbrev Inv-loop : tie.InvT-loop
 Inv-loop slots node s i₀ i = (i ≤ slots) × (slot-bytes (s .node) (s .bytes) node (below slots) ≡ slot-bytes (s .node) (s .bytes) node (upfrom i (slots - i)))

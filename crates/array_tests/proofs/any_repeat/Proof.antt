@@ -1,4 +1,4 @@
--- `refusals::any_repeat` meets its contract: before turn i the marks are those of the first i pairs, and what is left gives the whole answer.
+-- `array_tests::any_repeat` meets its contract: before turn i the marks are those of the first i pairs, and what is left gives the whole answer.
 -- Assumes nothing.
 use mathlib.Core.Path.{_≡_, sym}
 use Prim.Native.Nat.{_+_, _*_, _≤_, _<_, _-_}
@@ -8,8 +8,8 @@ use Rattle.lists.proofs.Loops.{Left, left-start, left-next, left-found, left-no
 use Rattle.lists.proofs.Marks.{Marked, marked-start, marked-seen, marked-new, marked-next}
 use Rattle.plan.specs.Refusing.{key}
 use borrow.Author.Needs.{needs}
-use Rattle.refusals.proofs.any_repeat.Statement.{statement}
-use Rattle.refusals.proofs.any_repeat.Tie as tie
+use Rattle.array_tests.proofs.any_repeat.Statement.{statement}
+use Rattle.array_tests.proofs.any_repeat.Tie as tie
 
 abbrev Inv-loop : tie.InvT-loop
 Inv-loop high low n seen₀ i₀ seen i = (i ≤ n) × Left (earlier (key high low)) n i × Marked (key high low) 4096 seen i

@@ -1,4 +1,4 @@
--- `refusals::wrong_sizes` meets its contract.
+-- `table_tests::wrong_sizes` meets its contract.
 -- Assumes nothing.
 use mathlib.Core.Path.{_≡_, sym, _∙_}
 use mathlib.Core.Bool.{true, false}
@@ -6,8 +6,8 @@ use borrow.Author.Needs.{needs}
 use Rattle.lists.specs.Lists.{any, below}
 use Rattle.model.specs.Refusals.{outside}
 use Rattle.plan.specs.Refusing.{outside-at, sizes-test}
-use Rattle.refusals.proofs.wrong_sizes.Statement.{statement}
-use Rattle.refusals.proofs.wrong_sizes.Tie as tie
+use Rattle.table_tests.proofs.wrong_sizes.Statement.{statement}
+use Rattle.table_tests.proofs.wrong_sizes.Tie as tie
 
 -- what has been found of the byte, of the slots and of the edges, where all of them pass
 byte-passes : (c : tie.Else1) → outside 1 1000 (c .before .before .args .byte) ≡ false

@@ -1,4 +1,4 @@
--- `refusals::any_not_below` meets its contract: what is left gives the whole answer.
+-- `array_tests::any_not_below` meets its contract: what is left gives the whole answer.
 -- Assumes nothing.
 use mathlib.Core.Path.{sym}
 use Prim.Native.Nat.{_≤_, _-_}
@@ -8,8 +8,8 @@ use borrow.Author.Tests.{le-leb, lt-leb}
 use Rattle.plan.specs.Refusing.{not-below-at}
 use Rattle.lists.proofs.Loops.{Left, left-start, left-next, left-found, left-none}
 use borrow.Author.Needs.{needs}
-use Rattle.refusals.proofs.any_not_below.Statement.{statement}
-use Rattle.refusals.proofs.any_not_below.Tie as tie
+use Rattle.array_tests.proofs.any_not_below.Statement.{statement}
+use Rattle.array_tests.proofs.any_not_below.Tie as tie
 
 abbrev Inv-loop : tie.InvT-loop
 Inv-loop xs n bound i₀ i = (i ≤ n) × Left (not-below-at xs bound) n i

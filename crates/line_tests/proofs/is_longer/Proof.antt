@@ -1,4 +1,4 @@
--- `refusals::is_longer` meets its contract.
+-- `line_tests::is_longer` meets its contract.
 -- Assumes nothing.
 use mathlib.Core.Path.{_≡_, ap}
 use Prim.Native.Nat.{ℕ}
@@ -7,8 +7,8 @@ use borrow.Author.Needs.{needs}
 use borrow.Author.Tests.{eq-eqb, ne-eqb}
 use Rattle.lists.specs.Lists.{below}
 use Rattle.plan.specs.Refusing.{slot-bytes, longer}
-use Rattle.refusals.proofs.is_longer.Statement.{statement}
-use Rattle.refusals.proofs.is_longer.Tie as tie
+use Rattle.line_tests.proofs.is_longer.Statement.{statement}
+use Rattle.line_tests.proofs.is_longer.Tie as tie
 
 returns : tie.Need-returns
 unfolding longer

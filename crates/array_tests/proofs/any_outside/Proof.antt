@@ -1,12 +1,12 @@
--- `refusals::any_outside` meets its contract: what is left gives the whole answer.
+-- `array_tests::any_outside` meets its contract: what is left gives the whole answer.
 -- Assumes nothing.
 use mathlib.Core.Path.{sym, _∙_}
 use Prim.Native.Nat.{_≤_, _-_}
 use Rattle.lists.proofs.Loops.{Left, left-start, left-next, left-found, left-none}
 use Rattle.plan.specs.Refusing.{outside-at}
 use borrow.Author.Needs.{needs}
-use Rattle.refusals.proofs.any_outside.Statement.{statement}
-use Rattle.refusals.proofs.any_outside.Tie as tie
+use Rattle.array_tests.proofs.any_outside.Statement.{statement}
+use Rattle.array_tests.proofs.any_outside.Tie as tie
 
 abbrev Inv-loop : tie.InvT-loop
 Inv-loop xs n lo hi i₀ i = (i ≤ n) × Left (outside-at xs lo hi) n i

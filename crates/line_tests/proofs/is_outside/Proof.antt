@@ -1,9 +1,9 @@
--- `refusals::is_outside` meets its contract.
+-- `line_tests::is_outside` meets its contract.
 -- Assumes nothing.
 use borrow.Author.Tests.{lt-ltb, le-ltb}
 use Rattle.model.specs.Refusals.{outside}
-use Rattle.refusals.proofs.is_outside.Statement.{statement}
-use Rattle.refusals.proofs.is_outside.Tie as tie
+use Rattle.line_tests.proofs.is_outside.Statement.{statement}
+use Rattle.line_tests.proofs.is_outside.Tie as tie
 
 returns : tie.Need-returns
 unfolding outside
