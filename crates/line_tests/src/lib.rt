@@ -38,6 +38,7 @@ pub fn is_outside(x: u32, lo: u32, hi: u32) -> bool
     hi < x
 }
 
+// A number of 32 bits as a count.
 pub fn wide(x: u32) -> usize
     ensures { λ r. ⌜ r ≡ x ⌝ }
 {
@@ -45,7 +46,13 @@ pub fn wide(x: u32) -> usize
 }
 
 // A `when` of this kind names a condition that process `from` does not decide.
-pub fn is_undecided(from: u32, kind: u32, condition: u32, decider: [u32; 6], conditions: usize) -> bool
+pub fn is_undecided(
+    from: u32,
+    kind: u32,
+    condition: u32,
+    decider: [u32; 6],
+    conditions: usize,
+) -> bool
     requires { ⌜ conditions ≤ 6 ⌝ }
     ensures { λ r. ⌜ r ≡ undecided-by from kind condition decider conditions ⌝ }
 {

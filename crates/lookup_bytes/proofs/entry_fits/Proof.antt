@@ -7,8 +7,8 @@ use lib.ListN.{length}
 use Rattle.model.specs.Firmware.{words-of}
 use Rattle.words.proofs.Reading.{words-count}
 use Rattle.row_query.specs.Entries.{entry-at}
-use Rattle.kernel.specs.Finding.{row-fits}
-use Rattle.kernel.proofs.Search.{other-tick, at-tick}
+use Rattle.entry_search.specs.Finding.{row-fits}
+use Rattle.entry_search.proofs.Search.{other-tick, at-tick}
 use Rattle.lookup_bytes.proofs.entry_fits.Statement.{statement}
 use borrow.Author.Needs.{needs}
 use Rattle.lookup_bytes.proofs.entry_fits.Tie as tie

@@ -8,8 +8,8 @@ use native.Mathlib.Omega.{arith}
 use lib.ListN.{length, drop}
 use Rattle.model.specs.Table.{Entry, entries-of}
 use Rattle.model.specs.Firmware.{words-of}
-use Rattle.kernel.specs.Finding.{found-of, fits-by, find-by}
-use Rattle.kernel.proofs.Search.{search-end, search-found, search-next}
+use Rattle.entry_search.specs.Finding.{found-of, fits-by, find-by}
+use Rattle.entry_search.proofs.Search.{search-end, search-found, search-next}
 use Rattle.lookup_bytes.proofs.first_fitting.Statement.{statement}
 use borrow.Author.Needs.{needs}
 use Rattle.lookup_bytes.proofs.first_fitting.Tie as tie
