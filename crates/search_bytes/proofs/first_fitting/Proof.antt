@@ -1,4 +1,4 @@
--- `lookup_bytes::first_fitting` meets its contract: before turn i, what the search from i on finds is the answer.
+-- `search_bytes::first_fitting` meets its contract: before turn i, what the search from i on finds is the answer.
 -- Assumes nothing.
 use mathlib.Core.Path.{_≡_, refl, sym, ap, _∙_}
 use mathlib.Core.Bool.{Bool}
@@ -10,9 +10,9 @@ use Rattle.model.specs.Table.{Entry, entries-of}
 use Rattle.model.specs.Firmware.{words-of}
 use Rattle.entry_search.specs.Finding.{found-of, fits-by, find-by}
 use Rattle.entry_search.proofs.Search.{search-end, search-found, search-next}
-use Rattle.lookup_bytes.proofs.first_fitting.Statement.{statement}
+use Rattle.search_bytes.proofs.first_fitting.Statement.{statement}
 use borrow.Author.Needs.{needs}
-use Rattle.lookup_bytes.proofs.first_fitting.Tie as tie
+use Rattle.search_bytes.proofs.first_fitting.Tie as tie
 
 abbrev Inv-loop : tie.InvT-loop
 Inv-loop bytes first from decider nodes processes tell rows node tick heard told n i₀ i =

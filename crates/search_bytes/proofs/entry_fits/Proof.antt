@@ -1,4 +1,4 @@
--- `lookup_bytes::entry_fits` meets its contract: another tick decides it, and at the tick its row and column do.
+-- `search_bytes::entry_fits` meets its contract: another tick decides it, and at the tick its row and column do.
 -- Assumes nothing.
 use mathlib.Core.Path.{sym, _∙_}
 use Prim.Native.Nat.{_+_, _*_, _≤_}
@@ -9,9 +9,9 @@ use Rattle.words.proofs.Reading.{words-count}
 use Rattle.row_query.specs.Entries.{entry-at}
 use Rattle.entry_search.specs.Finding.{row-fits}
 use Rattle.entry_search.proofs.Search.{other-tick, at-tick}
-use Rattle.lookup_bytes.proofs.entry_fits.Statement.{statement}
+use Rattle.search_bytes.proofs.entry_fits.Statement.{statement}
 use borrow.Author.Needs.{needs}
-use Rattle.lookup_bytes.proofs.entry_fits.Tie as tie
+use Rattle.search_bytes.proofs.entry_fits.Tie as tie
 
 -- the words of entry i lie within
 room : (c : tie.Start) → c .args .i * 5 + 5 ≤ length (c .args .bytes .now)
