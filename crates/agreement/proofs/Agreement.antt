@@ -12,8 +12,8 @@ use Rattle.planner.specs.declared.Made.{Made}
 use Rattle.planner.specs.declared.Planned.the-variants as planned
 use Rattle.planner.specs.Planner as planner
 use Rattle.planner.proofs.Sound.{given-sound}
-use Rattle.checker.specs.declared.Checked.the-variants.{Accepted}
-use Rattle.checker.specs.Checker.{answer-of}
+use Rattle.judging.specs.declared.Checked.the-variants.{Accepted}
+use Rattle.judging.specs.Judging.{answer-of}
 use Rattle.checker.proofs.Sound.{accepted-sound}
 
 -- For every plan in memory and all words lent: where the planner's answer is `Made(m)`, the checker's answer to the first `m.words` words that stand in the

@@ -1,21 +1,6 @@
 // The checker over a start table lent as bytes, words little-endian.
-use crate::refused;
-use check_bytes::check_bytes;
-use checker::Checked;
-use plan_reader::read_plan;
-use refusals::Refusal;
-ghost use mathlib.Core.Path.{_≡_};
-ghost use Rattle.capi.specs.Checks.{Checks, checked-answer};
-
-// The number in which the checker's answer is given: 0 for an accepted table, or the refusal.
-fn checked(c: Checked) -> u64
-    ensures { λ r. ⌜ r ≡ checked-answer c ⌝ }
-{
-    match c {
-        Checked::Accepted => 0,
-        Checked::Refused(n) => refused(n),
-    }
-}
+use check_text::check_text;
+ghost use Rattle.check_text.specs.Checks.{Checks};
 
 // Checks a table given as bytes, with the delay stated for it: 0 if it is accepted, or the first refusal, 1 to 9 of the plan text and 12 to
 // 20 of the table, as 2^64 - 1 less its number.
@@ -23,13 +8,5 @@ fn checked(c: Checked) -> u64
 pub extern "C" fn riscadru_check_table(text: &[u8], table: &[u8], delay: u64) -> u64
     ensures { λ r. ⌜ Checks (now (text .entry)) (now (table .entry)) delay r ⌝ }
 {
-    let read = read_plan(text);
-    let refusal = read.refusal;
-    match refusal {
-        Refusal::Refused(n) => refused(n),
-        Refusal::Nothing => {
-            let p = read.plan;
-            checked(check_bytes(p, table, delay))
-        }
-    }
+    check_text(text, table, delay)
 }

@@ -1,27 +1,11 @@
 // The kernel lookup and the row query over a table lent as bytes, words little-endian.
-use crate::refused;
-use kernel::Found;
-use lookup_bytes::lookup_bytes;
-use lookup_bytes::row_length;
-use lookup_bytes::row_start;
-use plan_reader::read_plan;
-use refusals::Refusal;
+use lookup_text::lookup_text;
+use row_bytes::row_length;
+use row_bytes::row_start;
 ghost use mathlib.Core.Path.{_≡_};
 ghost use Prim.Native.Nat.{_*_};
 ghost use Rattle.model.specs.Lookup.{row-start, row-length};
 ghost use Rattle.model.specs.Firmware.{words-of, Answers-lookup};
-ghost use Rattle.capi.specs.Lookup.{found-answer};
-
-// The number in which the lookup's answer is given: an entry's number, none as 2^64 - 1, or the refusal.
-fn found(f: Found) -> u64
-    ensures { λ r. ⌜ r ≡ found-answer f ⌝ }
-{
-    match f {
-        Found::Entry(i) => i as u64,
-        Found::None => 18446744073709551615,
-        Found::Refused(n) => refused(n),
-    }
-}
 
 // Looks up, for a unit's kernel, the next entry of a table given as bytes: the number of the first entry, from number `first` on, of the
 // node at the tick whose known bits are all heard, with the heard values at those bits; none as 2^64 - 1; or refusal 1 to 9 of the plan
@@ -38,15 +22,7 @@ pub extern "C" fn riscadru_lookup(
 ) -> u64
     ensures { λ r. ⌜ Answers-lookup (now (text .entry)) (now (table .entry)) node tick heard values first r ⌝ }
 {
-    let read = read_plan(text);
-    let refusal = read.refusal;
-    match refusal {
-        Refusal::Refused(n) => refused(n),
-        Refusal::Nothing => {
-            let p = read.plan;
-            found(lookup_bytes(p, table, node, tick, heard, values, first))
-        }
-    }
+    lookup_text(text, table, node, tick, heard, values, first)
 }
 
 // Where the part of a table that holds a row's entries begins, in bytes; at the front where no entry is of that row.

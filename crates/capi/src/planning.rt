@@ -1,24 +1,14 @@
 // The planner over a plan text: what the planning program prints, and the table, the frame list and the totals as bytes, words little-endian.
-use crate::refused;
-use listing::Listed;
+use listing_number::listed;
+use numbers::refused;
 use plan_bytes::Put;
 use plan_bytes::put_plan;
 use plan_reader::read_plan;
 use program::print_plan;
 use refusals::Refusal;
 ghost use mathlib.Core.Path.{_≡_};
-ghost use Rattle.capi.specs.Listing.{Lists, listed-answer};
+ghost use Rattle.listing_number.specs.Listing.{Lists};
 ghost use Rattle.capi.specs.Tables.{Tables, put-answer};
-
-// The number in which the listing's answer is given: how many bytes were written, or the refusal.
-fn listed(l: Listed) -> u64
-    ensures { λ r. ⌜ r ≡ listed-answer l ⌝ }
-{
-    match l {
-        Listed::Wrote(n) => n as u64,
-        Listed::Refused(n) => refused(n),
-    }
-}
 
 // Reads a plan text, plans it, and writes what the planning program prints for it to the front of the lent bytes: how many bytes were written, or refusal 10
 // as 2^64 - 1 less 10, which leaves the lent bytes unchanged.

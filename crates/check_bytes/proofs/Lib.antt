@@ -1,3 +1,2 @@
--- Copied (words that are copied are the table's), Many (the answer to a table of more entries than combinations times rows).
+-- Laws of a table lent as bytes: Copied (words that are copied are the table's).
 pub mod Copied
-pub mod Many

@@ -8,7 +8,7 @@ use Prim.Native.Nat.{ℕ, _%_, _^_}
 use native.Mathlib.Omega.{arith}
 use lib.Dec.{eqb}
 use lib.ListN.{length, getD}
-use borrow.Author.Tests.{eqb-true, eq-eqb, ne-eqb}
+use borrow.Author.Tests.{eqb-true, eq-eqb}
 use Rattle.lists.specs.Lists.{if_then_else_, any, below, greatest}
 use Rattle.lists.proofs.Tests.{two}
 use Rattle.lists.proofs.Members.{map-same, below-in}
@@ -18,13 +18,14 @@ use Rattle.mask.proofs.Numbered.{combinations-count}
 use Rattle.model.specs.Plan.{Lines}
 use Rattle.model.specs.Activity.{combinations}
 use Rattle.model.specs.Log.{full-ticks, delay}
-use Rattle.model.specs.Refusals.{Refusal, nothing, refused, sentence, or-else, plan-refusal}
+use Rattle.model.specs.Refusals.{Refusal, nothing, refused, sentence}
 use Rattle.model.specs.Table.{Entry, entries-of}
-use Rattle.model.specs.Checking.{ill-formed, met-log, not-once, uses-unknown, too-early, off-slot, overlap, share-byte, greatest-delay, in-some, table-refusal, check}
+use Rattle.model.specs.Checking.{ill-formed, met-log, not-once, uses-unknown, too-early, off-slot, overlap, share-byte, greatest-delay, in-some, table-refusal}
 use Rattle.board.specs.declared.Board.{Board}
-use Rattle.checker.specs.declared.Checked.the-variants.{Accepted, Refused}
-use Rattle.combination.specs.Combination.{first-of, found-by, least, found-all, Tabled}
-use Rattle.checker.specs.Checker.{answer-of, judged-by}
+use Rattle.judging.specs.declared.Checked.the-variants.{Accepted, Refused}
+use Rattle.first_sentence.specs.First.{first-of}
+use Rattle.combination.specs.Combination.{found-by, least, found-all, Tabled}
+use Rattle.judging.specs.Judging.{answer-of, judged-by}
 use Rattle.combination.proofs.Least.{refusal-at, least-same, least-in, least-chain}
 use Rattle.combination.proofs.Trying.{found-first, found-delay}
 
@@ -131,25 +132,8 @@ module _ (b : Board) (words : List ℕ) (t : Tabled b words) where
       ∙ judge n (greatest-delay p es) stated
       ∙ ap answer-of (first-refusal (sentence 20 (not (eqb stated (greatest-delay p es))) nothing))
 
--- the answer where refusal 12 applies, where 13 does, and where neither does
+-- the answer where neither 12 nor 13 applies
 module _ (p : Lines) (words : List ℕ) (stated : ℕ) where
-  pub answer-12 : (length words % 5 ≡ 0 → ⊥) → Refused 12 ≡ answer-of (table-refusal p words stated)
-  unfolding table-refusal answer-of
-  answer-12 n = rw (ne-eqb (length words % 5) 0 n)
-
-  pub answer-13 : length words % 5 ≡ 0 → any (ill-formed p) (entries-of words) ≡ true → Refused 13 ≡ answer-of (table-refusal p words stated)
-  unfolding table-refusal answer-of
-  answer-13 q e = rw (eq-eqb (length words % 5) 0 q, e)
-
   pub answer-later : length words % 5 ≡ 0 → any (ill-formed p) (entries-of words) ≡ false → answer-of (later p (entries-of words) stated) ≡ answer-of (table-refusal p words stated)
   unfolding table-refusal
   answer-later q e = rw (eq-eqb (length words % 5) 0 q, e)
-
-  -- a refusal of the plan, and none
-  pub answer-plan : (n : ℕ) → plan-refusal p ≡ refused n → Refused n ≡ answer-of (check p words stated)
-  unfolding check or-else answer-of
-  answer-plan n e = rw e
-
-  pub answer-words : plan-refusal p ≡ nothing → answer-of (table-refusal p words stated) ≡ answer-of (check p words stated)
-  unfolding check or-else
-  answer-words e = rw e

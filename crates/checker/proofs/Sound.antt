@@ -14,9 +14,9 @@ use Rattle.laws.proofs.Sound.{sound-iff}
 use Rattle.laws.proofs.OwnTable.{own-table-sound}
 use Rattle.plan.specs.declared.Plan.{Plan}
 use Rattle.plan.specs.Memory.{lines}
-use Rattle.checker.specs.declared.Checked.{Checked}
-use Rattle.checker.specs.declared.Checked.the-variants.{Accepted, Refused}
-use Rattle.checker.specs.Checker.{answer-of}
+use Rattle.judging.specs.declared.Checked.{Checked}
+use Rattle.judging.specs.declared.Checked.the-variants.{Accepted, Refused}
+use Rattle.judging.specs.Judging.{answer-of}
 
 abbrev is-accepted : Checked → Type 0
 is-accepted Accepted = Unit {0}

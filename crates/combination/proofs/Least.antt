@@ -10,7 +10,8 @@ use lib.Dec.{eqb}
 use Rattle.lists.specs.Lists.{if_then_else_, any, upfrom, below}
 use Rattle.lists.proofs.Loops.{upfrom-start, upfrom-next, upfrom-end}
 use Rattle.model.specs.Refusals.{Refusal, refused, sentence}
-use Rattle.combination.specs.Combination.{first-of, least}
+use Rattle.first_sentence.specs.First.{first-of}
+use Rattle.combination.specs.Combination.{least}
 
 -- a loop that takes the least so far: with what is left it gives the whole
 module _ (f : ℕ → ℕ) where

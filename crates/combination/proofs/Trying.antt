@@ -26,7 +26,7 @@ use Rattle.readiness.proofs.Readings.{last-end-link}
 use Rattle.board.specs.declared.Board.{Board}
 use Rattle.met.specs.declared.MetRows.{MetRows}
 use Rattle.met.specs.Table.{met-rows, Rowed}
-use Rattle.met.specs.Due.{due-of, miscounted-by}
+use Rattle.due.specs.Due.{due-of, miscounted-by}
 use Rattle.met.proofs.Column.{numbered-length}
 use Rattle.met.proofs.Due.{due-link}
 use Rattle.met.proofs.Links.{rowed, miscounts-link, known-at, held}
@@ -37,7 +37,8 @@ use Rattle.sentences.proofs.Links.{guesses-link, off-slot-link, overlap-link}
 use Rattle.sharing.proofs.Formed.{sized}
 use Rattle.sharing.proofs.Links.{share-link}
 use Rattle.early.proofs.Links.{active-runs, too-early-link}
-use Rattle.combination.specs.Combination.{first-of, too-early-in, first-in, active-from, found-by, Tabled, Tried}
+use Rattle.first_sentence.specs.First.{first-of, too-early-in, first-in, Tried}
+use Rattle.combination.specs.Combination.{active-from, found-by, Tabled}
 
 past-end : (xs : List Bool) (i : ℕ) → length xs ≤ i → getD xs i false ≡ false
 past-end [] i l = refl

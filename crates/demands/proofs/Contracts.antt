@@ -21,11 +21,11 @@ use Rattle.plan_writer.specs.Answer as writer
 use Rattle.planner.specs.Planner as planner
 use Rattle.listing.specs.Answer as listing
 use Rattle.program.specs.Prints.{Prints}
-use Rattle.checker.specs.Checker as checker
-use Rattle.kernel.specs.Finding.{found-of}
-use Rattle.capi.specs.Checks.{Checks}
-use Rattle.capi.specs.Copy.{Copies}
-use Rattle.capi.specs.Listing.{Lists}
+use Rattle.judging.specs.Judging as checker
+use Rattle.entry_search.specs.Finding.{found-of}
+use Rattle.check_text.specs.Checks.{Checks}
+use Rattle.copy_text.specs.Copy.{Copies}
+use Rattle.listing_number.specs.Listing.{Lists}
 use Rattle.capi.specs.Tables.{Tables}
 use Rattle.refusals.proofs.refuse.Reads as the-refuse
 use Rattle.refusals.proofs.refuse.Kinds as the-refuse-kinds

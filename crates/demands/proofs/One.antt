@@ -34,13 +34,13 @@ use Rattle.listing.specs.declared.Listed.{Listed}
 use Rattle.listing.specs.declared.Listed.the-variants as listed
 use Rattle.listing.specs.Answer as listing
 use Rattle.program.specs.Prints.{Prints}
-use Rattle.checker.specs.declared.Checked.{Checked}
-use Rattle.checker.specs.declared.Checked.the-variants as checked
-use Rattle.checker.specs.Checker as checker
-use Rattle.kernel.specs.declared.Found.{Found}
-use Rattle.kernel.specs.declared.Found.the-variants as found
-use Rattle.kernel.specs.Finding.{found-of}
-use Rattle.capi.specs.Listing.{Lists}
+use Rattle.judging.specs.declared.Checked.{Checked}
+use Rattle.judging.specs.declared.Checked.the-variants as checked
+use Rattle.judging.specs.Judging as checker
+use Rattle.entry_search.specs.declared.Found.{Found}
+use Rattle.entry_search.specs.declared.Found.the-variants as found
+use Rattle.entry_search.specs.Finding.{found-of}
+use Rattle.listing_number.specs.Listing.{Lists}
 use Rattle.demands.specs.Sentences.{Sentence, first, plan-sentences, bytes-sentences, room-sentences, table-sentences, First-of, First-of-text, Keeps-to, In-number}
 use Rattle.demands.specs.One.{First-of-printed, Demand-1}
 use Rattle.demands.proofs.Firsts.{plan-first, bytes-first, room-first, table-first, plan-then, text-some, text-one, by-text, Told, keeps, keeps-list, keeps-text}

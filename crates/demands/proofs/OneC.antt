@@ -19,8 +19,9 @@ use Rattle.model.specs.Firmware.{words-of, found-number, found-in, Answers-look
 use Rattle.grammar.proofs.Bounds.{print-length}
 use Rattle.planner.proofs.Most.{entries-cap}
 use Rattle.words.proofs.Reading.{words-count}
-use Rattle.capi.specs.Checks.{checked-of, checked-number, Checks}
-use Rattle.capi.specs.Copy.{copy, written-number, Copies}
+use Rattle.check_text.specs.Checks.{checked-of, checked-number, Checks}
+use Rattle.numbers.specs.Numbers.{written-number}
+use Rattle.copy_text.specs.Copy.{copy, Copies}
 use Rattle.capi.specs.Tables.{planned-of, Puts, Tables}
 use Rattle.demands.specs.Sentences.{first, plan-sentences, bytes-sentences, room-sentences, table-sentences, First-of-text, Keeps-to, In-number}
 use Rattle.demands.proofs.Firsts.{bytes-first, room-first, table-first, number-listed, by-text, Told, keeps-text, number-refused, number-result}

@@ -31,7 +31,7 @@ use Rattle.words.proofs.Reading.{words-count, words-at}
 use Rattle.words.proofs.Writing.{bytes-count}
 use Rattle.words.proofs.Back.{Words, words-back}
 use Rattle.plan_bytes.specs.Filled.{totals-of}
-use Rattle.capi.specs.Checks.{checked-of, checked-number, Checks}
+use Rattle.check_text.specs.Checks.{checked-of, checked-number, Checks}
 use Rattle.capi.specs.Tables.{planned-of, Puts, Tables}
 use Rattle.demands.specs.Sentences.{room-sentences}
 use Rattle.demands.specs.Two.{Not-refused, Scheduled-bytes}

@@ -15,11 +15,11 @@ use Rattle.plan.specs.Memory.{lines}
 use Rattle.planner.specs.declared.Made.{Made}
 use Rattle.planner.specs.declared.Planned.the-variants as planned
 use Rattle.planner.specs.Planner as planner
-use Rattle.checker.specs.declared.Checked.the-variants.{Accepted}
-use Rattle.checker.specs.Checker.{answer-of}
+use Rattle.judging.specs.declared.Checked.the-variants.{Accepted}
+use Rattle.judging.specs.Judging.{answer-of}
 use Rattle.checker.proofs.Sound.{accepted-sound}
 use Rattle.agreement.proofs.Agreement.{planned-accepted}
-use Rattle.kernel.specs.Finding.{found-of}
+use Rattle.entry_search.specs.Finding.{found-of}
 use Rattle.demands.specs.Kernel.{Answers, Keeps, means, asked}
 
 means-back : (f : Found) → means (found-of f) ≡ f

@@ -18,7 +18,7 @@ use Rattle.model.specs.Firmware.{words-of, found-number, found-in}
 use Rattle.model.specs.Demand.{Demand-3}
 use Rattle.grammar.proofs.Whole.{means-unique}
 use Rattle.laws.proofs.Demand.{demand-3}
-use Rattle.capi.specs.Checks.{Checks}
+use Rattle.check_text.specs.Checks.{Checks}
 use Rattle.demands.specs.KernelC.{Numbers, Keeps-numbers, number-means, asked-numbers}
 use Rattle.demands.specs.Sentences.{Sentence, first, plan-sentences, table-sentences, First-of-text, exceeds, not-of-the-form, of-lines}
 use Rattle.demands.proofs.Firsts.{table-first, plan-then, text-some}

@@ -29,10 +29,10 @@ use Rattle.planner.specs.Planner as planner
 use Rattle.listing.specs.declared.Listed.{Listed}
 use Rattle.listing.specs.declared.Listed.the-variants as listed
 use Rattle.listing.specs.Answer as listing
-use Rattle.checker.specs.declared.Checked.{Checked}
-use Rattle.checker.specs.declared.Checked.the-variants as checked
-use Rattle.checker.specs.Checker as checker
-use Rattle.capi.specs.Copy.{written-number}
+use Rattle.judging.specs.declared.Checked.{Checked}
+use Rattle.judging.specs.declared.Checked.the-variants as checked
+use Rattle.judging.specs.Judging as checker
+use Rattle.numbers.specs.Numbers.{written-number}
 use Rattle.capi.specs.Tables.{table-number, Puts}
 use Rattle.plan_bytes.specs.Filled.{table-bytes-after, frame-bytes-after, totals-after}
 use Rattle.demands.specs.Sentences.{In-number}

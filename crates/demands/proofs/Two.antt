@@ -27,7 +27,8 @@ use Rattle.plan_reader.specs.Answer.{reading-of}
 use Rattle.plan_writer.specs.declared.Written.{Written}
 use Rattle.plan_writer.specs.declared.Written.the-variants as written
 use Rattle.plan_writer.specs.Answer as writer
-use Rattle.plan_writer.proofs.Read.{of-read, written-is-read, read-is-written}
+use Rattle.refusals.proofs.Accepted.{of-read}
+use Rattle.plan_writer.proofs.Read.{written-is-read, read-is-written}
 use Rattle.planner.specs.declared.Made.{Made}
 use Rattle.planner.specs.declared.Planned.the-variants as planned
 use Rattle.planner.specs.Planner as planner
@@ -36,8 +37,9 @@ use Rattle.listing.specs.declared.Listed.the-variants as listed
 use Rattle.listing.specs.Answer as listing
 use Rattle.program.specs.Prints.{Prints}
 use Rattle.planner.proofs.Given.{Was-made, was-made}
-use Rattle.capi.specs.Copy.{copy, written-number, Copies}
-use Rattle.capi.specs.Listing.{Lists}
+use Rattle.numbers.specs.Numbers.{written-number}
+use Rattle.copy_text.specs.Copy.{copy, Copies}
+use Rattle.listing_number.specs.Listing.{Lists}
 use Rattle.capi.specs.Tables.{planned-of, table-number, Puts, Tables}
 use Rattle.plan_bytes.specs.Filled.{table-bytes-after, frame-bytes-after, totals-after}
 use Rattle.demands.specs.Sentences.{Sentence, first, bytes-sentences, room-sentences, Keeps-to}

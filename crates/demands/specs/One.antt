@@ -34,15 +34,15 @@ use Rattle.listing.specs.declared.Listed.{Listed}
 use Rattle.listing.specs.declared.Listed.the-variants as listed
 use Rattle.listing.specs.Answer as listing
 use Rattle.program.specs.Prints.{Prints}
-use Rattle.checker.specs.declared.Checked.{Checked}
-use Rattle.checker.specs.declared.Checked.the-variants as checked
-use Rattle.checker.specs.Checker as checker
-use Rattle.kernel.specs.declared.Found.{Found}
-use Rattle.kernel.specs.declared.Found.the-variants as found
-use Rattle.kernel.specs.Finding.{found-of}
-use Rattle.capi.specs.Checks.{Checks}
-use Rattle.capi.specs.Copy.{Copies}
-use Rattle.capi.specs.Listing.{Lists}
+use Rattle.judging.specs.declared.Checked.{Checked}
+use Rattle.judging.specs.declared.Checked.the-variants as checked
+use Rattle.judging.specs.Judging as checker
+use Rattle.entry_search.specs.declared.Found.{Found}
+use Rattle.entry_search.specs.declared.Found.the-variants as found
+use Rattle.entry_search.specs.Finding.{found-of}
+use Rattle.check_text.specs.Checks.{Checks}
+use Rattle.copy_text.specs.Copy.{Copies}
+use Rattle.listing_number.specs.Listing.{Lists}
 use Rattle.capi.specs.Tables.{Tables}
 use Rattle.demands.specs.Sentences.{Sentence, plan-sentences, bytes-sentences, room-sentences, table-sentences, First-of, First-of-text, Keeps-to, In-number}
 

@@ -33,8 +33,8 @@ use Rattle.planner.specs.declared.Planned.the-variants as planned
 use Rattle.planner.specs.Planner as planner
 use Rattle.listing.specs.declared.Listed.the-variants as listed
 use Rattle.program.specs.Prints.{Prints}
-use Rattle.capi.specs.Copy.{Copies}
-use Rattle.capi.specs.Listing.{Lists}
+use Rattle.copy_text.specs.Copy.{Copies}
+use Rattle.listing_number.specs.Listing.{Lists}
 use Rattle.capi.specs.Tables.{Tables}
 use Rattle.plan_bytes.specs.Filled.{totals-of}
 use Rattle.demands.specs.Sentences.{First-of, plan-sentences, room-sentences, In-number}

@@ -32,7 +32,7 @@ use Rattle.board.specs.Board.{Boarded}
 use Rattle.meeting.specs.Meeting.{Meets, start-by}
 use Rattle.meeting.proofs.Rows.{some-same, and-same, any-rows}
 use Rattle.meeting.proofs.Formed.{log-row, start-tick}
-use Rattle.early.specs.Early.{misses-by, sends-by, early-by, too-early-by}
+use Rattle.undelivered.specs.Early.{misses-by, sends-by, early-by, too-early-by}
 
 -- an array that has 1 where a process is active and else 0 says what may run where everything is heard
 pub active-runs : (p : Lines) (c : List Bool) (run : List ℕ) → ((i : ℕ) → getD run i 0 ≡ bit (active p c i)) → Runs run (may-run p (all-heard c))

@@ -6,7 +6,7 @@ use Prim.Native.Nat.{ℕ, _-_, _<_}
 use lib.Dec.{ltb}
 use lib.ListN.{getD}
 use Rattle.lists.specs.Lists.{if_then_else_}
-use Rattle.early.specs.Early.{sends-by}
+use Rattle.undelivered.specs.Early.{sends-by}
 
 pub sends-small : (from decider : List ℕ) (processes tell r : ℕ) → ((e : ℕ) → getD from e 0 < 64) → ((k : ℕ) → getD decider k 0 < 64) → sends-by from decider processes tell r < 64
 unfolding sends-by

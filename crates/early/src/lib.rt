@@ -1,67 +1,14 @@
 // Refusal 16 of one combination, read off arrays by row. `comes` has 0 where no entry of the row is met, else the met entry's tick plus what the
 // row lasts, plus 1; `span` has what the row lasts, so that the row starts at the clock comes - span, which is its tick plus 1. specs/Early.antt
-// says what each function answers in the words of the arrays.
+// of undelivered says what each function answers in the words of the arrays.
 use readiness::came;
-use readiness::delivered;
+use undelivered::misses_some;
 ghost use mathlib.Core.Path.{_≡_};
 ghost use Prim.Native.Nat.{ℕ, _+_, _<_, _≤_};
 ghost use lib.ListN.{getD};
-ghost use Rattle.lists.specs.Lists.{any};
-ghost use Rattle.readiness.specs.Reading.{part, Within};
+ghost use Rattle.readiness.specs.Reading.{Within};
 ghost use Rattle.meeting.specs.Meeting.{Readable};
-ghost use Rattle.early.specs.Early.{misses-by, sends-by, early-by, too-early-by};
-
-// Edge e carries and has not delivered by the clock.
-fn misses<'a>(
-    processes: usize,
-    remote: &'a [u32; 128],
-    from: &'a [u32; 128],
-    cue: &'a [u32; 128],
-    unmet: &'a [u32; 128],
-    comes: &'a [u32; 198],
-    active: &'a [u32; 64],
-    e: usize,
-    u: u32,
-) -> bool
-    requires { ⌜ (e < 128) × (processes ≤ 64) × (getD (now from) e 0 < 64) × (getD (now cue) e 0 < 198) ⌝ }
-    ensures { λ b. ⌜ b ≡ misses-by processes (now (remote .entry)) (now (from .entry)) (now (cue .entry)) (now (unmet .entry)) (now (comes .entry)) (now (active .entry)) u e ⌝ }
-{
-    if active[from[e] as usize] == 0 {
-        return false;
-    }
-    if unmet[e] != 0 {
-        return false;
-    }
-    !delivered(processes, remote, from, cue, unmet, comes, e, u)
-}
-
-// Some edge of into[a .. b] carries and has not delivered by the clock.
-fn misses_some<'a>(
-    processes: usize,
-    remote: &'a [u32; 128],
-    from: &'a [u32; 128],
-    cue: &'a [u32; 128],
-    unmet: &'a [u32; 128],
-    comes: &'a [u32; 198],
-    active: &'a [u32; 64],
-    into: &'a [u32; 128],
-    a: usize,
-    b: usize,
-    u: u32,
-) -> bool
-    requires { ⌜ (b ≤ 128) × (processes ≤ 64) × Within (now from) (now cue) (now into) ⌝ }
-    ensures { λ z. ⌜ z ≡ any (misses-by processes (now (remote .entry)) (now (from .entry)) (now (cue .entry)) (now (unmet .entry)) (now (comes .entry)) (now (active .entry)) u) (part (now (into .entry)) a b) ⌝ }
-{
-    let mut j = a;
-    while j < b {
-        let e = into[j] as usize;
-        if misses(processes, remote, from, cue, unmet, comes, active, e, u) {
-            return true;
-        }
-        j += 1;
-    }
-    false
-}
+ghost use Rattle.undelivered.specs.Early.{sends-by, early-by, too-early-by};
 
 // The process that sends the item of row r: a message's sender, or the decider of a condition.
 fn sends<'a>(

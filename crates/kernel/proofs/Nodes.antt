@@ -22,7 +22,7 @@ use Rattle.plan.specs.Memory.{lines}
 use Rattle.plan.specs.Refusing.{at}
 use Rattle.plan.specs.Tables.{processes-table, edges-table}
 use Rattle.plan.proofs.Links.{Few, processes-length, edges-length, conditions-length, slots-length, decider-at, process-node, edge-from}
-use Rattle.kernel.specs.Finding.{process-of-row, fits-by, find-by, Small}
+use Rattle.entry_search.specs.Finding.{process-of-row, fits-by, find-by, Small}
 
 -- a refusal of the plan is the answer
 pub is-refused : (p : Plan) (ws : List ℕ) (n t h v first r : ℕ) → plan-refusal (lines p) ≡ refused r → lookup (lines p) ws n t h v first ≡ refusal r

@@ -1,115 +1,21 @@
-// The kernel lookup and the row query over the bytes of a table: its words, four bytes each, are read where they lie.
-use kernel::Found;
-use kernel::row_fits;
+// The kernel lookup over the bytes of a table: its words, four bytes each, are read where they lie.
+use entry_search::Found;
 use plan::Plan;
 use plan::tables::edge_table;
 use plan::tables::process_table;
-use words::how_many;
-use words::word_at;
+use search_bytes::first_fitting;
 ghost use mathlib.Core.Path.{_≡_};
-ghost use Prim.Native.Nat.{_+_, _*_, _/_, _≤_, _<_};
-ghost use lib.ListN.{length, drop};
 ghost use Rattle.model.specs.Refusals.{nothing, plan-refusal};
-ghost use Rattle.model.specs.Table.{entries-of};
 ghost use Rattle.model.specs.Firmware.{words-of};
-ghost use Rattle.model.specs.Lookup.{before-row, run-of-row, row-start, row-length};
 ghost use Rattle.model.specs.Lookup as m;
 ghost use Rattle.plan.specs.Memory.{lines};
-ghost use Rattle.row_query.specs.Entries.{entry-at};
-ghost use Rattle.kernel.specs.Finding.{found-of, fits-by, find-by, Small};
+ghost use Rattle.entry_search.specs.Finding.{found-of};
 
 // A number of 32 bits as a count.
 fn wide(x: u32) -> usize
     ensures { λ r. ⌜ r ≡ x ⌝ }
 {
     x as usize
-}
-
-// Whether entry i of a table is of a node at a tick, and its column is met by what is heard.
-fn entry_fits<'a>(
-    bytes: &'a [u8],
-    i: usize,
-    from: &'a [u32; 128],
-    decider: &'a [u32; 6],
-    nodes: &'a [u32; 64],
-    processes: usize,
-    tell: usize,
-    rows: usize,
-    node: u32,
-    tick: u32,
-    heard: u32,
-    told: u32,
-) -> bool
-    requires { ⌜ i < length (words-of (now bytes)) / 5 ⌝ ∗ ⌜ Small (now from) (now decider) processes tell rows ⌝ }
-    ensures { λ r. ⌜
-        r ≡ fits-by (now (from .entry)) (now (decider .entry)) (now (nodes .entry)) processes tell rows node tick heard told (entry-at (words-of (now (bytes .entry))) i)
-        ⌝ }
-{
-    let at = i * 5;
-    if word_at(bytes, at + 3) != tick {
-        return false;
-    }
-    let row = word_at(bytes, at);
-    let known = word_at(bytes, at + 1);
-    let values = word_at(bytes, at + 2);
-    row_fits(
-        row,
-        known,
-        values,
-        from,
-        decider,
-        nodes,
-        processes,
-        tell,
-        rows,
-        node,
-        heard,
-        told,
-    )
-}
-
-// The first entry from number `first` on that is of a node at a tick and whose column is met by what is heard.
-fn first_fitting<'a>(
-    bytes: &'a [u8],
-    first: usize,
-    from: &'a [u32; 128],
-    decider: &'a [u32; 6],
-    nodes: &'a [u32; 64],
-    processes: usize,
-    tell: usize,
-    rows: usize,
-    node: u32,
-    tick: u32,
-    heard: u32,
-    told: u32,
-) -> Found
-    requires { ⌜ Small (now from) (now decider) processes tell rows ⌝ }
-    ensures { λ r. ⌜
-        r ≡ found-of (find-by (fits-by (now (from .entry)) (now (decider .entry)) (now (nodes .entry)) processes tell rows node tick heard told) (drop first (entries-of (words-of (now (bytes .entry))))) first)
-        ⌝ }
-{
-    let n = how_many(bytes) / 5;
-    let mut i = first;
-    while i < n {
-        if entry_fits(
-            bytes,
-            i,
-            from,
-            decider,
-            nodes,
-            processes,
-            tell,
-            rows,
-            node,
-            tick,
-            heard,
-            told,
-        ) {
-            return Found::Entry(i);
-        }
-        i += 1;
-    }
-    Found::None
 }
 
 // The kernel lookup over the bytes of a table, for a plan in which refusals 2 to 9 find nothing: the number of the first entry, from number
@@ -148,58 +54,4 @@ pub fn lookup_bytes(
         heard,
         values,
     )
-}
-
-// How many entries stand before the first of a row; all of them where no entry is of that row.
-fn entries_before(bytes: &[u8], row: u32) -> usize
-    ensures { λ r. ⌜ r ≡ before-row row (entries-of (words-of (now (bytes .entry)))) ⌝ }
-    ensures { λ r. ⌜ r ≤ length (words-of (now (bytes .entry))) / 5 ⌝ }
-{
-    let n = how_many(bytes) / 5;
-    let mut i: usize = 0;
-    while i < n {
-        if word_at(bytes, i * 5) == row {
-            return i;
-        }
-        i += 1;
-    }
-    n
-}
-
-// How many entries of a row follow one another from entry `first` on.
-fn entries_from(bytes: &[u8], first: usize, row: u32) -> usize
-    requires { ⌜ first ≤ length (words-of (now bytes)) / 5 ⌝ }
-    ensures { λ r. ⌜ r ≡ run-of-row row (drop first (entries-of (words-of (now (bytes .entry))))) ⌝ }
-    ensures { λ r. ⌜ first + r ≤ length (words-of (now (bytes .entry))) / 5 ⌝ }
-{
-    let n = how_many(bytes) / 5;
-    let mut i: usize = first;
-    while i < n {
-        if word_at(bytes, i * 5) != row {
-            return i - first;
-        }
-        i += 1;
-    }
-    n - first
-}
-
-// Where the part of a table that holds a row's entries begins, in bytes; at the front where no entry is of that row.
-pub fn row_start(bytes: &[u8], row: u32) -> usize
-    ensures { λ r. ⌜ r ≡ 4 * row-start (words-of (now (bytes .entry))) row ⌝ }
-{
-    let first = entries_before(bytes, row);
-    let count = entries_from(bytes, first, row);
-    if count == 0 {
-        return 0;
-    }
-    first * 20
-}
-
-// How many bytes the part of a table has that holds a row's entries: from the first entry of that row to the next of another row.
-pub fn row_length(bytes: &[u8], row: u32) -> usize
-    ensures { λ r. ⌜ r ≡ 4 * row-length (words-of (now (bytes .entry))) row ⌝ }
-{
-    let first = entries_before(bytes, row);
-    let count = entries_from(bytes, first, row);
-    count * 20
 }

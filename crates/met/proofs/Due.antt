@@ -25,7 +25,7 @@ use Rattle.readiness.proofs.Running.{may-run-link}
 use Rattle.board.specs.declared.Board.{Board}
 use Rattle.board.specs.Layout.{unmet-by}
 use Rattle.board.specs.Board.{Boarded}
-use Rattle.met.specs.Due.{due-edge, due-row, due-by, active-by, due-of}
+use Rattle.due.specs.Due.{due-edge, due-row, due-by, active-by, due-of}
 use Rattle.met.proofs.Column.{numbered-length}
 
 -- from clock 1 on every row is over

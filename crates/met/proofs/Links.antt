@@ -30,7 +30,7 @@ use Rattle.board.specs.declared.Board.{Board}
 use Rattle.board.specs.Board.{Boarded}
 use Rattle.met.specs.declared.MetRows.{MetRows}
 use Rattle.met.specs.Table.{met-in, counted, ends, placed, column, by-row, met-rows, Rowed}
-use Rattle.met.specs.Due.{due-of, differs-at, miscounted-by}
+use Rattle.due.specs.Due.{due-of, differs-at, miscounted-by}
 use Rattle.met.proofs.Column.{Formed, formed, column-same}
 use Rattle.met.proofs.Rows.{of-row, left-by, left-most, by-row-at, by-row-length, count-tells}
 use Rattle.met.proofs.Due.{due-link}

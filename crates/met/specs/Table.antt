@@ -1,11 +1,11 @@
 -- The met entries of one combination, in arrays by row: which entries are met, and what each of them stores.
 -- Assumes nothing.
-use Prim.Native.Nat.{ℕ, _+_, _<_, _≤_}
+use Prim.Native.Nat.{ℕ, _+_, _^_, _<_, _≤_}
 use mathlib.Core.Bool.{Bool}
 use mathlib.Core.List.{List, [], _∷_, List·Memᴰ as In}
 use lib.Bits.{bitAnd}
 use lib.Dec.{eqb}
-use lib.ListN.{getD, set, replicate}
+use lib.ListN.{length, getD, set, replicate}
 use Rattle.lists.specs.Lists.{if_then_else_}
 use Rattle.model.specs.Table.{Entry, entries-of}
 use Rattle.met.specs.declared.MetRows.{MetRows}
@@ -64,3 +64,7 @@ met-rows words c lasting =
 -- every entry has a row of the arrays and a tick of at most nine digits
 abbrev pub Rowed : List ℕ → Type 0
 Rowed words = (e : Entry) → In e (entries-of words) → (e .row < 198) × (e .tick ≤ 999999999)
+
+-- numbers of 32 bits
+abbrev pub Small : List ℕ → Type 0
+Small words = (i : ℕ) → i < length words → getD words i 0 < 2 ^ 32

@@ -1,15 +1,11 @@
-// One combination of a table under check: its met entries in arrays by row, the rows that are due in it, and whether each row is met as often
-// as it is due.
-use board::Board;
-use board::unmet;
-use readiness::may_run;
+// One combination of a table under check: its met entries in arrays by row, and whether each row is met as often as it is due.
+use due::no_rows;
+use due::wide;
 ghost use mathlib.Core.Path.{_≡_};
 ghost use Prim.Native.Nat.{ℕ, _+_, _%_, _<_, _≤_};
-ghost use lib.ListN.{getD, length, replicate};
-ghost use Rattle.model.specs.Plan.{Lines};
-ghost use Rattle.board.specs.Board.{Boarded};
+ghost use lib.ListN.{getD, length};
 ghost use Rattle.met.specs.Table.{entry-from, one-more, counted, ends, placed, column, after, met-rows, Rowed};
-ghost use Rattle.met.specs.Due.{due-edge, due-row, due-by, due-of, miscounted-by};
+ghost use Rattle.due.specs.Due.{miscounted-by};
 
 // The met entries of a combination, by row: how many there are (0, 1, or 2 for more), and of the last of them the clock at which the row is over
 // (its tick, plus what the row lasts, plus 1), its place and the known bits of its column. 0 where none is met.
@@ -18,25 +14,6 @@ pub struct MetRows {
     pub comes: [u32; 198],
     pub place: [u32; 198],
     pub known: [u32; 198],
-}
-
-fn wide(x: u32) -> usize
-    ensures { λ r. ⌜ r ≡ x ⌝ }
-{
-    x as usize
-}
-
-fn no_rows() -> [u32; 198]
-    ensures { λ r. ⌜ r ≡ replicate 198 0 ⌝ }
-{
-    [0u32; 198]
-}
-
-// An array by row in which every row is over from clock 1 on.
-fn all_over() -> [u32; 198]
-    ensures { λ r. ⌜ r ≡ replicate 198 1 ⌝ }
-{
-    [1u32; 198]
 }
 
 // One more of what is counted as 0, 1, or 2 for more.
@@ -103,112 +80,6 @@ pub fn met_rows<'a>(table: &'a [u32], c: u32, lasting: &'a [u32; 198]) -> MetRow
         place,
         known,
     }
-}
-
-// Whether edge e is due: it is between nodes, its `when` is met, and its sender is active. 1, or 0.
-fn edge_due<'a>(
-    from: &'a [u32; 128],
-    unmet: &'a [u32; 128],
-    remote: &'a [u32; 128],
-    run: &'a [u32; 64],
-    e: usize,
-) -> u32
-    requires { ⌜ (e < 128) × (getD (now from) e 0 < 64) ⌝ }
-    ensures { λ r. ⌜ r ≡ due-edge (now (from .entry)) (now (unmet .entry)) (now (remote .entry)) (now (run .entry)) e ⌝ }
-{
-    if remote[e] == 0 {
-        return 0;
-    }
-    if unmet[e] == 0 {
-        return run[from[e] as usize];
-    }
-    0
-}
-
-// Whether row r is due: 1, or 0.
-fn row_due<'a>(
-    processes: usize,
-    tell: usize,
-    from: &'a [u32; 128],
-    unmet: &'a [u32; 128],
-    remote: &'a [u32; 128],
-    decider: &'a [u32; 6],
-    run: &'a [u32; 64],
-    r: usize,
-) -> u32
-    requires { ⌜ (processes ≤ 64) × (tell ≤ processes + 128) × (r < tell + 6) ⌝ ∗ ⌜ ((e : ℕ) → getD (now from) e 0 < 64) ⌝ ∗ ⌜ ((k : ℕ) → getD (now decider) k 0 < 64) ⌝ }
-    ensures { λ x. ⌜ x ≡ due-row processes tell (now (from .entry)) (now (unmet .entry)) (now (remote .entry)) (now (decider .entry)) (now (run .entry)) r ⌝ }
-{
-    if r < processes {
-        return run[r];
-    }
-    if r < tell {
-        return edge_due(from, unmet, remote, run, r - processes);
-    }
-    let i = wide(decider[r - tell]);
-    run[i]
-}
-
-// Which rows are due, given which processes are active.
-fn rows_due<'a>(
-    processes: usize,
-    tell: usize,
-    rows: usize,
-    from: &'a [u32; 128],
-    unmet: &'a [u32; 128],
-    remote: &'a [u32; 128],
-    decider: &'a [u32; 6],
-    run: &'a [u32; 64],
-) -> [u32; 198]
-    requires { ⌜ (processes ≤ 64) × (tell ≤ processes + 128) × (rows ≤ tell + 6) ⌝ ∗ ⌜ ((e : ℕ) → getD (now from) e 0 < 64) ⌝ ∗ ⌜ ((k : ℕ) → getD (now decider) k 0 < 64) ⌝ }
-    ensures { λ x. ⌜ x ≡ due-by processes tell rows (now (from .entry)) (now (unmet .entry)) (now (remote .entry)) (now (decider .entry)) (now (run .entry)) ⌝ }
-{
-    let mut due = no_rows();
-    let mut r: usize = 0;
-    while r < rows {
-        due[r] = row_due(processes, tell, from, unmet, remote, decider, run, r);
-        r += 1;
-    }
-    due
-}
-
-// The rows that are due in the combination with number c: 1 where a row is due, 0 where it is not.
-pub fn due_rows(b: Board, c: u32) -> [u32; 198]
-    requires { ⌜ ((p : Lines) × Boarded p b) ⌝ }
-    ensures { λ r. ⌜ r ≡ due-of b c ⌝ }
-{
-    let from = b.from;
-    let cue = b.cue;
-    let remote = b.remote;
-    let several = b.several;
-    let intofirst = b.intofirst;
-    let into = b.into;
-    let decider = b.decider;
-    let kind = b.kind;
-    let condition = b.condition;
-    let over = all_over();
-    let missed = unmet(&kind, &condition, b.edges, c);
-    let run = may_run(
-        b.processes,
-        &from,
-        &cue,
-        &missed,
-        &over,
-        &several,
-        &intofirst,
-        &into,
-        1,
-    );
-    rows_due(
-        b.processes,
-        b.tell,
-        b.rows,
-        &from,
-        &missed,
-        &remote,
-        &decider,
-        &run,
-    )
 }
 
 // Whether some row is met another number of times than it is due (refusal 14).

@@ -13,7 +13,8 @@ use Rattle.planner.specs.Planner.{answer-of}
 use Rattle.planner.proofs.Given.{turned, Stands}
 use Rattle.words.specs.Bytes.{bytes-of}
 use Rattle.plan_bytes.specs.declared.Put.the-variants.{Wrote, Refused}
-use Rattle.plan_bytes.specs.Filled.{put-of, totals-of, table-bytes-after, frame-bytes-after, totals-after, Filled, Stored}
+use Rattle.made_bytes.specs.Stored.{Stored}
+use Rattle.plan_bytes.specs.Filled.{put-of, totals-of, table-bytes-after, frame-bytes-after, totals-after, Filled}
 
 -- a refusal leaves the bytes unchanged
 pub nothing-filled : (n : ℕ) (table frames totals : List ℕ) → Filled (turned-down n) table frames totals table frames totals

@@ -8,7 +8,6 @@ use lib.ListN.{length, take}
 use Rattle.lists.specs.Lists.{sum}
 use Rattle.lists.specs.Front.{front}
 use Rattle.model.specs.Table.{Answer, turned-down, made, Result, entry-words, frame-words}
-use Rattle.planner.specs.declared.Made.{Made}
 use Rattle.words.specs.Bytes.{bytes-of}
 use Rattle.plan_bytes.specs.declared.Put.{Put}
 use Rattle.plan_bytes.specs.declared.Put.the-variants.{Wrote, Refused}
@@ -40,9 +39,3 @@ pub record Filled (a : Answer) (table frames totals table-now frames-now totals-
   pub table-bytes : table-now ≡ table-bytes-after a table
   pub frame-bytes : frames-now ≡ frame-bytes-after a frames
   pub total-bytes : totals-now ≡ totals-after a totals
-
--- what the planner made, at the front of some words, put into lent bytes
-pub record Stored (m : Made) (words framewords table frames totals table-now frames-now totals-now : List ℕ) : Type 0 where
-  pub table-bytes : table-now ≡ front (bytes-of (take (m .words) words)) table
-  pub frame-bytes : frames-now ≡ front (bytes-of (take (m .framewords) framewords)) frames
-  pub total-bytes : totals-now ≡ front (take (length totals) (bytes-of (m .words ∷ m .framewords ∷ m .delay ∷ m .passed ∷ []))) totals

@@ -1,12 +1,11 @@
--- Each line of the plan text as the labels, numbers and words that are put one after another.
+-- Each line of the plan text but an edge's as the labels, numbers and words that are put one after another.
 -- Assumes nothing.
 use mathlib.Core.Path.{_≡_, _∙_}
-use mathlib.Core.Bool.{true, false}
 use mathlib.Core.List.{List, [], _∷_, _++_, append-assoc}
 use Prim.Native.Nat.{ℕ}
 use Rattle.lists.proofs.Joined.{regroup}
-use Rattle.model.specs.Plan.{Pick, by-urgency, by-number, Waits, waits-all, waits-any, Slot, Edge, on}
-use Rattle.model.specs.Text.{text, decimal, field, pick-text, waits-text, when-text, slot-line, process-line, condition-line, edge-line, plan-line}
+use Rattle.model.specs.Plan.{Pick, by-urgency, by-number, Waits, waits-all, waits-any, Slot}
+use Rattle.model.specs.Text.{text, field, pick-text, waits-text, slot-line, process-line, condition-line, plan-line}
 use Rattle.text.specs.Label.{labelled}
 use Rattle.text.proofs.Fields.{field-then}
 
@@ -43,18 +42,3 @@ process-parts node ticks waits-any =
 pub condition-parts : (i : ℕ) → condition-line i ≡ labelled "(condition (process " i ++ text "))\n"
 unfolding condition-line
 condition-parts i = append-assoc (text "(condition ") (field "process" i) (text ")\n") ∙ rw (field-then "process" i)
-
-pub true-parts : (k : ℕ) → when-text (on true k) ≡ labelled "(true " k ++ text ")"
-unfolding when-text field
-true-parts k = regroup (text "(true ") (decimal k ∷ text ")" ∷ [])
-
-pub false-parts : (k : ℕ) → when-text (on false k) ≡ labelled "(false " k ++ text ")"
-unfolding when-text field
-false-parts k = regroup (text "(false ") (decimal k ∷ text ")" ∷ [])
-
-pub edge-parts : (e : Edge) →
-    edge-line e ≡ labelled "(edge (from " (e .from) ++ (labelled ") (to " (e .to) ++ (labelled ") (bytes " (e .bytes) ++ (text ") (when " ++ (when-text (e .when) ++ text "))\n"))))
-unfolding edge-line
-edge-parts e =
-    regroup (text "(edge ") (field "from" (e .from) ∷ text " " ∷ field "to" (e .to) ∷ text " " ∷ field "bytes" (e .bytes) ∷ text " (when " ∷ when-text (e .when) ∷ text "))\n" ∷ [])
-    ∙ rw (field-then "from" (e .from), field-then "to" (e .to), field-then "bytes" (e .bytes))

@@ -1,14 +1,12 @@
-// Each line of the plan text put into lent bytes from a place on: the bytes that lie within are stored, and all are counted.
-use plan::Edge;
+// Each line of the plan text but an edge's, put into lent bytes from a place on: the bytes that lie within are stored, and all are counted.
 use plan::Pick;
 use plan::Process;
 use plan::Slot;
 use plan::Waits;
-use plan::When;
 use text::put_labelled;
 use text::put_word;
-ghost use Rattle.model.specs.Text.{when-text, slot-line, process-line, condition-line, edge-line, plan-line};
-ghost use Rattle.plan.specs.Memory.{pick-of, when-of, slot-of, process-of, edge-of};
+ghost use Rattle.model.specs.Text.{slot-line, process-line, condition-line, plan-line};
+ghost use Rattle.plan.specs.Memory.{pick-of, slot-of, process-of};
 ghost use Rattle.text.specs.Put.{Counts, Put};
 
 // Puts the plan line.
@@ -53,37 +51,5 @@ pub fn put_condition(out: &mut [u8], at: usize, process: u32) -> usize
     ensures { λ r. ⌜ Put (now (out .entry)) (now (out .exit)) at r (condition-line process) ⌝ }
 {
     let end = put_labelled(out, at, b"(condition (process ", process);
-    put_word(out, end, b"))\n")
-}
-
-// Puts the `when` of an edge.
-fn put_when(out: &mut [u8], at: usize, when: When) -> usize
-    requires { ⌜ Counts at (when-text (when-of when)) ⌝ }
-    ensures { λ r. ⌜ Put (now (out .entry)) (now (out .exit)) at r (when-text (when-of when)) ⌝ }
-{
-    match when {
-        When::Always => put_word(out, at, b"always"),
-        When::True(k) => {
-            let end = put_labelled(out, at, b"(true ", k);
-            put_word(out, end, b")")
-        }
-        When::False(k) => {
-            let end = put_labelled(out, at, b"(false ", k);
-            put_word(out, end, b")")
-        }
-    }
-}
-
-// Puts an edge line.
-pub fn put_edge(out: &mut [u8], at: usize, e: Edge) -> usize
-    requires { ⌜ Counts at (edge-line (edge-of e)) ⌝ }
-    ensures { λ r. ⌜ Put (now (out .entry)) (now (out .exit)) at r (edge-line (edge-of e)) ⌝ }
-{
-    let from = put_labelled(out, at, b"(edge (from ", e.from);
-    let to = put_labelled(out, from, b") (to ", e.to);
-    let bytes = put_labelled(out, to, b") (bytes ", e.bytes);
-    let before = put_word(out, bytes, b") (when ");
-    let when = e.when;
-    let end = put_when(out, before, when);
     put_word(out, end, b"))\n")
 }

@@ -22,8 +22,8 @@ use Rattle.plan.specs.declared.Process.{Process}
 use Rattle.plan.specs.declared.Edge.{Edge}
 use Rattle.plan.specs.declared.Plan.{Plan}
 use Rattle.plan.proofs.Counted.{counted-length}
-use Rattle.plan_reader.specs.Run.{Run}
-use Rattle.plan_reader.specs.Run as kinds
+use Rattle.line_runs.specs.Run.{Run}
+use Rattle.line_runs.specs.Run as kinds
 
 -- refusal 1
 module _ {text : List ℕ} {r : Reading} (e : r ≡ not-read 1) where

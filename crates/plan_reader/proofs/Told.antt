@@ -1,12 +1,15 @@
--- What the reader's answer tells of a text, in both of its cases: it is not read, with the refusal's number, or it reads as the plan's lines.
+-- What the reader's answer tells of a text, in both of its cases: it is not read, with the refusal's number, or it reads as the plan's lines, in which
+-- refusals 2 to 9 then find nothing.
 -- Assumes nothing.
-use mathlib.Core.Path.{_≡_, ap, subst}
+use mathlib.Core.Path.{_≡_, refl, ap, subst}
 use mathlib.Core.List.{List}
 use Prim.Native.Nat.{ℕ}
+use Rattle.model.specs.Refusals.{nothing, plan-refusal}
 use Rattle.model.specs.Text.{reads, not-read, after-refusal, Answers-text}
 use Rattle.plan.specs.Memory.{lines}
 use Rattle.refusals.specs.Refusing.{refusal-of}
 use Rattle.refusals.specs.declared.Refusal.the-variants.{Nothing, Refused}
+use Rattle.refusals.proofs.Accepted.{of-read}
 use Rattle.plan_reader.specs.declared.Read.{Read}
 use Rattle.plan_reader.specs.Answer.{reading-of}
 
@@ -18,3 +21,6 @@ module _ (text : List ℕ) (r : Read) (told : Answers-text text (reading-of r)) 
   pub told-read : r .refusal ≡ Nothing → Answers-text text (reads (lines (r .plan)))
   unfolding reading-of after-refusal
   told-read e = subst (Answers-text text) (ap (λ x. after-refusal (refusal-of x) (lines (r .plan))) e) told
+
+  pub accepted : r .refusal ≡ Nothing → plan-refusal (lines (r .plan)) ≡ nothing
+  accepted e = of-read text (reads (lines (r .plan))) (lines (r .plan)) (told-read e) refl .0

@@ -1,14 +1,12 @@
 // The reader of plan texts.
-mod runs;
-
+use line_runs::all_conditions;
+use line_runs::all_edges;
+use line_runs::all_processes;
+use line_runs::all_slots;
 use plan::Plan;
 use plan::empty;
 use refusals::Refusal;
 use refusals::refuse;
-use runs::all_conditions;
-use runs::all_edges;
-use runs::all_processes;
-use runs::all_slots;
 use scan::lines::HeadAt;
 use scan::lines::head;
 ghost use mathlib.Core.Path.{_≡_};

@@ -1,4 +1,2 @@
--- Laws of what the plan writer puts and answers: Runs (lines of one kind), Whole (the text of a plan, and when it is written), Read (what is written is read).
-pub mod Runs
-pub mod Whole
+-- Laws of what the plan writer writes: Read (what is written is read).
 pub mod Read

@@ -1,7 +1,7 @@
 -- Reading and writing are inverse: what the plan writer writes is read as the lines that it was written from, so it is never refused 1;
 -- and what was read is written as the text.
 -- Assumes nothing.
-use mathlib.Core.Path.{_≡_, refl, ap, _∙_, subst}
+use mathlib.Core.Path.{_≡_, refl, ap, _∙_}
 use mathlib.Core.List.{List}
 use Prim.Native.Nat.{ℕ, _≤_}
 use native.Mathlib.Omega.{arith}
@@ -9,9 +9,10 @@ use lib.ListN.{length}
 use borrow.Author.Tests.{le-ltb}
 use Rattle.model.specs.Plan.{Lines}
 use Rattle.model.specs.Refusals.{Refusal, nothing, refused, or-else, plan-refusal}
-use Rattle.model.specs.Text.{print, Means, wrote, Reading, reads, after-refusal, Answers-text, too-long, of-no-form, of-form, unless-refused, fitting, write-plan}
+use Rattle.model.specs.Text.{print, wrote, Reading, reads, Answers-text, unless-refused, fitting, write-plan}
 use Rattle.grammar.proofs.Answers.{written-read, answers-unique}
-use Rattle.plan_writer.proofs.Whole.{lent-enough}
+use Rattle.refusals.proofs.Accepted.{of-read}
+use Rattle.plan_text.proofs.Whole.{lent-enough}
 
 wrote-text : (r s : Refusal) (text bytes : List ℕ) → unless-refused (or-else r s) text ≡ wrote bytes → (r ≡ nothing) × (text ≡ bytes)
 unfolding unless-refused or-else
@@ -24,16 +25,6 @@ unfolding write-plan
 written-is-read p lent bytes answer h a =
     let w = wrote-text (plan-refusal p) (fitting lent (print p)) (print p) bytes h in
     answers-unique a (rw (w .1) at (written-read p (w .0)))
-
-pub of-read : (bytes : List ℕ) (r : Reading) (p : Lines) → Answers-text bytes r → r ≡ reads p → (plan-refusal p ≡ nothing) × Means bytes p
-unfolding after-refusal
-of-read bytes r p (too-long l) e = absurd (let z : _≡_ {A = ℕ} 0 1 = cc in omega arith)
-of-read bytes r p (of-no-form f) e = absurd (let z : _≡_ {A = ℕ} 0 1 = cc in omega arith)
-of-read bytes r p (of-form q m l) e = at (plan-refusal q) refl e
-  where
-    at : (x : Refusal) → plan-refusal q ≡ x → after-refusal x q ≡ reads p → (plan-refusal p ≡ nothing) × Means bytes p
-    at nothing h s = let same : q ≡ p = cc in subst (λ (z : Lines). (plan-refusal z ≡ nothing) × Means bytes z) same (h, m)
-    at (refused n) h s = absurd (let z : _≡_ {A = ℕ} 0 1 = cc in omega arith)
 
 pub read-is-written : (bytes : List ℕ) (p : Lines) (lent : ℕ) → Answers-text bytes (reads p) → length bytes ≤ lent → write-plan p lent ≡ wrote bytes
 read-is-written bytes p lent a l =

@@ -1,3 +1,2 @@
-// The plan text from a position on: its words and numbers, and its lines.
+// The lines of the plan text from a position on.
 pub mod lines;
-pub mod words;

@@ -1,37 +1,22 @@
 // The lines of the plan text at a position.
-use crate::words::NumberAt;
-use crate::words::WordAt;
-use crate::words::closed;
-use crate::words::field;
-use crate::words::word;
+use line_ends::PickAt;
+use line_ends::WaitsAt;
+use line_ends::WhenAt;
+use line_ends::pick;
+use line_ends::waits;
+use line_ends::when;
 use plan::Edge;
 use plan::Pick;
 use plan::Process;
 use plan::Slot;
-use plan::Waits;
-use plan::When;
+use scan_words::NumberAt;
+use scan_words::closed;
+use scan_words::field;
 ghost use Prim.Native.Nat.{_≤_};
 ghost use lib.ListN.{length, drop};
-ghost use Rattle.grammar.specs.Parse.{pick-at, waits-at, when-at, head-at, slot-at, process-at, condition-at, edge-at};
-ghost use Rattle.scan.specs.Place.{Scanned, number, pick, waits, when, head, slot, process, edge};
-
-// A `pick` and the position behind its line, or that none stands there.
-pub enum PickAt {
-    Got(Pick, usize),
-    No,
-}
-
-// A `waits` and the position behind its line, or that none stands there.
-pub enum WaitsAt {
-    Got(Waits, usize),
-    No,
-}
-
-// A `when` and the position behind its line, or that none stands there.
-pub enum WhenAt {
-    Got(When, usize),
-    No,
-}
+ghost use Rattle.grammar.specs.Parse.{head-at, slot-at, process-at, condition-at, edge-at};
+ghost use Rattle.scan_words.specs.Place.{Scanned, number};
+ghost use Rattle.scan.specs.Lines.{head, slot, process, edge};
 
 // The `byte` and the `pick` of a plan line and the position behind it, or that none stands there.
 pub enum HeadAt {
@@ -55,51 +40,6 @@ pub enum ProcessAt {
 pub enum EdgeAt {
     Got(Edge, usize),
     No,
-}
-
-// The end of the plan line.
-fn pick(text: &[u8], at: usize) -> PickAt
-    requires { ⌜ at ≤ length (now text) ⌝ }
-    ensures { λ r. ⌜ Scanned (now (text .entry)) (pick r) (pick-at (drop at (now (text .entry)))) ⌝ }
-{
-    if let WordAt::Got(i) = word(text, at, b" (pick urgency))\n") {
-        return PickAt::Got(Pick::Urgency, i);
-    }
-    if let WordAt::Got(i) = word(text, at, b" (pick number))\n") {
-        return PickAt::Got(Pick::Number, i);
-    }
-    PickAt::No
-}
-
-// The end of a process line.
-fn waits(text: &[u8], at: usize) -> WaitsAt
-    requires { ⌜ at ≤ length (now text) ⌝ }
-    ensures { λ r. ⌜ Scanned (now (text .entry)) (waits r) (waits-at (drop at (now (text .entry)))) ⌝ }
-{
-    if let WordAt::Got(i) = word(text, at, b" (waits all))\n") {
-        return WaitsAt::Got(Waits::All, i);
-    }
-    if let WordAt::Got(i) = word(text, at, b" (waits any))\n") {
-        return WaitsAt::Got(Waits::Any, i);
-    }
-    WaitsAt::No
-}
-
-// The end of an edge line.
-fn when(text: &[u8], at: usize) -> WhenAt
-    requires { ⌜ at ≤ length (now text) ⌝ }
-    ensures { λ r. ⌜ Scanned (now (text .entry)) (when r) (when-at (drop at (now (text .entry)))) ⌝ }
-{
-    if let WordAt::Got(i) = word(text, at, b" (when always))\n") {
-        return WhenAt::Got(When::Always, i);
-    }
-    if let NumberAt::Got(k, i) = closed(text, at, b" (when (true ", b"))\n") {
-        return WhenAt::Got(When::True(k), i);
-    }
-    if let NumberAt::Got(k, i) = closed(text, at, b" (when (false ", b"))\n") {
-        return WhenAt::Got(When::False(k), i);
-    }
-    WhenAt::No
 }
 
 // The plan line at `at`.

@@ -1,5 +1,5 @@
--- For a plan in which refusals 2 to 9 find nothing and arrays that hold its board and the entries that a combination meets, what the functions of
--- this crate answer is what refusals 15, 17 and 18 say of the combination.
+-- For a plan in which refusals 2 to 9 find nothing and arrays that hold its board and the entries that a combination meets, what the definitions
+-- of this crate say is what refusals 15, 17 and 18 say of the combination.
 -- Assumes nothing.
 use mathlib.Core.Path.{_≡_, sym, ap, _∙_}
 use mathlib.Core.Bool.{Bool, true, not, _&&_, _||_}

@@ -12,7 +12,7 @@ use Rattle.board.specs.declared.Board.{Board}
 use Rattle.board.specs.Board.{Boarded}
 use Rattle.meeting.specs.Meeting.{Meets}
 use Rattle.meeting.proofs.Formed.{met-row}
-use Rattle.sharing.specs.Sharing.{Sized}
+use Rattle.item_pairs.specs.Sharing.{Sized}
 
 module _ (p : Lines) (es : List Entry) (c : List Bool) (comes place known : List ℕ) (m : Meets p es c comes place known) (g : Good p) (b : Board)
     (w : Boarded p b) where

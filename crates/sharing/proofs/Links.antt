@@ -27,7 +27,7 @@ use Rattle.board.specs.Board.{Boarded}
 use Rattle.meeting.specs.Meeting.{Meets, some, start-by}
 use Rattle.meeting.proofs.Rows.{some-same, and-same, any-rows, any-pairs}
 use Rattle.meeting.proofs.Formed.{node-in, log-row, start-tick}
-use Rattle.sharing.specs.Sharing.{passes-by, lie-by, shares-by, share-by}
+use Rattle.item_pairs.specs.Sharing.{passes-by, lie-by, shares-by, share-by}
 
 module _ (p : Lines) (no : plan-refusal p ≡ nothing) (b : Board) (w : Boarded p b)
     (es : List Entry) (c : List Bool) (comes place bits : List ℕ) (m : Meets p es c comes place bits) where

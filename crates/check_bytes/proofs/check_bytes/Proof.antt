@@ -5,7 +5,7 @@ use Prim.Native.Nat.{ℕ, _%_}
 use borrow.Author.Needs.{needs}
 use Rattle.model.specs.Firmware.{words-of}
 use Rattle.plan.specs.Memory.{lines}
-use Rattle.checker.proofs.Answers.{answer-12}
+use Rattle.judging.proofs.Answers.{answer-12}
 use Rattle.check_bytes.proofs.check_bytes.Statement.{statement}
 use Rattle.check_bytes.proofs.check_bytes.Tie as tie
 

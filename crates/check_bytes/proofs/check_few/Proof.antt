@@ -10,7 +10,7 @@ use borrow.Author.Needs.{needs}
 use Rattle.model.specs.Firmware.{words-of}
 use Rattle.model.specs.Checking.{table-refusal}
 use Rattle.plan.specs.Memory.{lines}
-use Rattle.checker.specs.Checker.{answer-of}
+use Rattle.judging.specs.Judging.{answer-of}
 use Rattle.words.proofs.Room.{entry-room}
 use Rattle.check_bytes.proofs.Copied.{copy-fits, copy-back}
 use Rattle.check_bytes.proofs.check_few.Statement.{statement}

@@ -4,7 +4,7 @@ use mathlib.Core.Path.{sym, ap, _∙_}
 use borrow.Author.Needs.{needs}
 use Rattle.plan.specs.Memory.{lines}
 use Rattle.refusals.specs.Refusing.{refusal-of}
-use Rattle.checker.proofs.Answers.{answer-plan, answer-words}
+use Rattle.judging.proofs.Answers.{answer-plan, answer-words}
 use Rattle.checker.proofs.check_table.Statement.{statement}
 use Rattle.checker.proofs.check_table.Tie as tie
 

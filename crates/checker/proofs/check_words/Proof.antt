@@ -6,10 +6,12 @@ use native.Mathlib.Omega.{arith}
 use borrow.Author.Needs.{needs}
 use Rattle.plan.specs.Memory.{lines}
 use Rattle.combination.specs.declared.Found.{Found}
-use Rattle.combination.specs.Combination.{found-all, Small, Tabled}
-use Rattle.checker.specs.Checker.{judged-by}
-use Rattle.checker.proofs.Forms.{formed-told}
-use Rattle.checker.proofs.Answers.{all-judged, answer-12, answer-13, answer-later}
+use Rattle.met.specs.Table.{Small}
+use Rattle.combination.specs.Combination.{found-all, Tabled}
+use Rattle.judging.specs.Judging.{judged-by}
+use Rattle.formed.proofs.Forms.{formed-told}
+use Rattle.judging.proofs.Answers.{answer-12, answer-13}
+use Rattle.checker.proofs.Answers.{all-judged, answer-later}
 use Rattle.checker.proofs.check_words.Statement.{statement}
 use Rattle.checker.proofs.check_words.Tie as tie
 

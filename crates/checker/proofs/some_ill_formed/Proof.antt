@@ -7,8 +7,8 @@ use native.Mathlib.Omega.{arith}
 use lib.ListN.{length}
 use borrow.Author.Needs.{needs}
 use Rattle.model.specs.Table.{Entry}
-use Rattle.checker.specs.Checker.{ill-formed-by}
-use Rattle.checker.proofs.Entries.{Rest, rest-next, rest-found, rest-none}
+use Rattle.formed.specs.Formed.{ill-formed-by}
+use Rattle.formed.proofs.Entries.{Rest, rest-next, rest-found, rest-none}
 use Rattle.checker.proofs.some_ill_formed.Statement.{statement}
 use Rattle.checker.proofs.some_ill_formed.Tie as tie
 

@@ -5,8 +5,8 @@ use native.Mathlib.Omega.{arith}
 use lib.ListN.{length}
 use borrow.Author.Needs.{needs}
 use Rattle.met.specs.declared.MetRows.{MetRows}
-use Rattle.combination.specs.Combination.{Tried}
-use Rattle.combination.proofs.First.{found-counted, found-14, found-later}
+use Rattle.first_sentence.specs.First.{Tried}
+use Rattle.combination.proofs.Combined.{found-counted, found-14, found-later}
 use Rattle.combination.proofs.Trying.{table-rowed, met-long, tried}
 use Rattle.combination.proofs.try_combination.Statement.{statement}
 use Rattle.combination.proofs.try_combination.Tie as tie

@@ -6,7 +6,7 @@ use native.Mathlib.Omega.{arith}
 use borrow.Author.Tests.{eq-eqb, ne-eqb, lt-ltb, le-ltb}
 use Rattle.readiness.specs.Reading.{placed-by, came-by, edges-into}
 use Rattle.meeting.specs.Meeting.{start-by}
-use Rattle.early.specs.Early.{early-by}
+use Rattle.undelivered.specs.Early.{early-by}
 use Rattle.early.proofs.Small.{sends-small}
 use borrow.Author.Needs.{needs}
 use Rattle.early.proofs.early.Statement.{statement}

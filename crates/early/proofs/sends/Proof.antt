@@ -1,7 +1,7 @@
 -- `early::sends` meets its contract, for a message and for a broadcast.
 -- Assumes nothing.
 use borrow.Author.Tests.{lt-ltb, le-ltb}
-use Rattle.early.specs.Early.{sends-by}
+use Rattle.undelivered.specs.Early.{sends-by}
 use borrow.Author.Needs.{needs}
 use Rattle.early.proofs.sends.Statement.{statement}
 use Rattle.early.proofs.sends.Tie as tie

@@ -4,7 +4,7 @@ use mathlib.Core.Path.{_≡_, refl, sym, _∙_}
 use mathlib.Core.Bool.{Bool}
 use Prim.Native.Nat.{ℕ, _-_}
 use Rattle.meeting.specs.Meeting.{some}
-use Rattle.early.specs.Early.{early-by, too-early-by}
+use Rattle.undelivered.specs.Early.{early-by, too-early-by}
 use Rattle.meeting.proofs.Loops.{some-next, some-found, some-none}
 use Rattle.early.proofs.too_early.Statement.{statement}
 use borrow.Author.Needs.{needs}

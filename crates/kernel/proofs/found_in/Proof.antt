@@ -5,7 +5,7 @@ use Prim.Native.Nat.{_+_, _<_}
 use native.Mathlib.Omega.{arith}
 use lib.ListN.{drop}
 use Rattle.model.specs.Table.{entries-of}
-use Rattle.kernel.specs.Finding.{found-of, fits-by, find-by}
+use Rattle.entry_search.specs.Finding.{found-of, fits-by, find-by}
 use Rattle.kernel.proofs.Nodes.{few, small, looked-up, unknown}
 use borrow.Author.Needs.{needs}
 use Rattle.kernel.proofs.found_in.Statement.{statement}

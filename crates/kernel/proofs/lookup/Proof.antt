@@ -2,7 +2,7 @@
 -- Assumes nothing.
 use mathlib.Core.Path.{sym, ap, _∙_}
 use Rattle.refusals.specs.Refusing.{refusal-of}
-use Rattle.kernel.specs.Finding.{found-of}
+use Rattle.entry_search.specs.Finding.{found-of}
 use Rattle.kernel.proofs.Nodes.{is-refused}
 use borrow.Author.Needs.{needs}
 use Rattle.kernel.proofs.lookup.Statement.{statement}

@@ -6,7 +6,7 @@ use native.Mathlib.Omega.{arith}
 use lib.ListN.{drop}
 use Rattle.model.specs.Table.{entries-of}
 use Rattle.model.specs.Firmware.{words-of}
-use Rattle.kernel.specs.Finding.{found-of, fits-by, find-by}
+use Rattle.entry_search.specs.Finding.{found-of, fits-by, find-by}
 use Rattle.kernel.proofs.Nodes.{few, small, looked-up, unknown}
 use borrow.Author.Needs.{needs}
 use Rattle.lookup_bytes.proofs.lookup_bytes.Statement.{statement}

@@ -5,7 +5,7 @@ use mathlib.Core.Bool.{not}
 use Prim.Native.Nat.{_≤_, _-_}
 use borrow.Author.Tests.{eq-eqb, ne-eqb}
 use Rattle.lists.proofs.Loops.{Left, left-start, left-next, left-found, left-none}
-use Rattle.met.specs.Due.{differs-at, miscounted-by}
+use Rattle.due.specs.Due.{differs-at, miscounted-by}
 use borrow.Author.Needs.{needs}
 use Rattle.met.proofs.miscounts.Statement.{statement}
 use Rattle.met.proofs.miscounts.Tie as tie

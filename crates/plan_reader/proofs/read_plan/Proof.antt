@@ -2,8 +2,8 @@
 -- Assumes nothing.
 use borrow.Author.Needs.{needs}
 use mathlib.Core.Path.{sym}
-use Rattle.scan.specs.Place.{head}
-use Rattle.scan.proofs.Told.{told}
+use Rattle.scan.specs.Lines.{head}
+use Rattle.scan_words.proofs.Told.{told}
 use Rattle.plan_reader.proofs.Answers.{long-text, no-form-text, no-head, more-follows, whole-text}
 use Rattle.plan_reader.proofs.read_plan.Statement.{statement}
 use Rattle.plan_reader.proofs.read_plan.Tie as tie

@@ -12,7 +12,7 @@ use Rattle.model.specs.Text.{print, bytes-after}
 use Rattle.plan.specs.Memory.{lines}
 use Rattle.refusals.specs.Refusing.{refusal-of}
 use Rattle.plan_writer.specs.declared.Written.the-variants.{Wrote}
-use Rattle.plan_writer.proofs.Whole.{is-refused, lent-less, lent-enough}
+use Rattle.plan_text.proofs.Whole.{is-refused, lent-less, lent-enough}
 use borrow.Author.Needs.{needs}
 use Rattle.plan_writer.proofs.write_plan.Statement.{statement}
 use Rattle.plan_writer.proofs.write_plan.Tie as tie

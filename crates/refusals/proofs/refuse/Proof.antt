@@ -15,7 +15,7 @@ use Rattle.plan.specs.Memory.{lines}
 use Rattle.plan.specs.Refusing.{at}
 use Rattle.plan.proofs.Links.{Few, few, counts-same, deciders-same}
 use Rattle.plan.proofs.Sentences.{from-3, from-4, from-5, from-6, from-7, from-8, from-9, stops, goes-on, first-stops, first-goes-on}
-use Rattle.refusals.proofs.Below.{ends-below}
+use Rattle.array_tests.proofs.Below.{ends-below}
 use Rattle.refusals.proofs.Known.{Known, sizes, nodes, ends, twins, whens, messages}
 use Rattle.refusals.proofs.refuse.Statement.{statement}
 use Rattle.refusals.proofs.refuse.Tie as tie

@@ -2,7 +2,7 @@
 -- Assumes nothing.
 use mathlib.Core.Path.{sym, _∙_}
 use Rattle.plan.specs.Refusing.{deciders-test}
-use Rattle.refusals.proofs.Below.{all-small}
+use Rattle.array_tests.proofs.Below.{all-small}
 use borrow.Author.Needs.{needs}
 use Rattle.refusals.proofs.wrong_deciders.Statement.{statement}
 use Rattle.refusals.proofs.wrong_deciders.Tie as tie

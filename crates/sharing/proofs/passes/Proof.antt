@@ -1,7 +1,7 @@
 -- `sharing::passes` meets its contract.
 -- Assumes nothing.
 use mathlib.Core.Path.{refl}
-use Rattle.sharing.specs.Sharing.{passes-by}
+use Rattle.item_pairs.specs.Sharing.{passes-by}
 use borrow.Author.Needs.{needs}
 use Rattle.sharing.proofs.passes.Statement.{statement}
 use Rattle.sharing.proofs.passes.Tie as tie

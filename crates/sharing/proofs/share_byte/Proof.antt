@@ -4,7 +4,7 @@ use mathlib.Core.Path.{_≡_, refl, sym, _∙_}
 use mathlib.Core.Bool.{Bool}
 use Prim.Native.Nat.{ℕ, _-_}
 use Rattle.meeting.specs.Meeting.{some}
-use Rattle.sharing.specs.Sharing.{shares-by, share-by}
+use Rattle.item_pairs.specs.Sharing.{shares-by, share-by}
 use Rattle.meeting.proofs.Loops.{some-next, some-found, some-none}
 use Rattle.sharing.proofs.share_byte.Statement.{statement}
 use borrow.Author.Needs.{needs}

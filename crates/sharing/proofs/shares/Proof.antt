@@ -7,7 +7,7 @@ use native.Mathlib.Omega.{arith}
 use borrow.Author.Tests.{eq-eqb, ne-eqb}
 use Rattle.readiness.specs.Reading.{placed-by}
 use Rattle.meeting.specs.Meeting.{some}
-use Rattle.sharing.specs.Sharing.{lie-by, shares-by}
+use Rattle.item_pairs.specs.Sharing.{lie-by, shares-by}
 use Rattle.meeting.proofs.Loops.{some-next, some-found, some-none}
 use Rattle.sharing.proofs.shares.Statement.{statement}
 use borrow.Author.Needs.{needs}

@@ -2,8 +2,8 @@
 -- Assumes nothing.
 use mathlib.Core.Path.{ap, _∙_}
 use borrow.Author.Needs.{needs}
-use Rattle.capi.proofs.Listing.{listed-number}
-use Rattle.capi.specs.Listing.{listed-answer}
+use Rattle.listing_number.proofs.Listing.{listed-number}
+use Rattle.listing_number.specs.Listing.{listed-answer}
 use Rattle.capi.proofs.planning.riscadru_plan_listing.Statement.{statement}
 use Rattle.capi.proofs.planning.riscadru_plan_listing.Tie as tie
 

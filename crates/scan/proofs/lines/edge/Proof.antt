@@ -2,8 +2,9 @@
 -- Assumes nothing.
 use borrow.Author.Needs.{needs}
 use Rattle.grammar.specs.Parse.{edge-at}
-use Rattle.scan.specs.Place.{number, when}
-use Rattle.scan.proofs.Told.{told}
+use Rattle.scan_words.specs.Place.{number}
+use Rattle.line_ends.specs.Ends.{when}
+use Rattle.scan_words.proofs.Told.{told}
 use Rattle.scan.proofs.lines.edge.Statement.{statement}
 use Rattle.scan.proofs.lines.edge.Tie as tie
 

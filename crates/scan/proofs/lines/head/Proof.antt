@@ -2,8 +2,9 @@
 -- Assumes nothing.
 use borrow.Author.Needs.{needs}
 use Rattle.grammar.specs.Parse.{head-at}
-use Rattle.scan.specs.Place.{number, pick}
-use Rattle.scan.proofs.Told.{told}
+use Rattle.scan_words.specs.Place.{number}
+use Rattle.line_ends.specs.Ends.{pick}
+use Rattle.scan_words.proofs.Told.{told}
 use Rattle.scan.proofs.lines.head.Statement.{statement}
 use Rattle.scan.proofs.lines.head.Tie as tie
 

@@ -2,8 +2,9 @@
 -- Assumes nothing.
 use borrow.Author.Needs.{needs}
 use Rattle.grammar.specs.Parse.{process-at}
-use Rattle.scan.specs.Place.{number, waits}
-use Rattle.scan.proofs.Told.{told}
+use Rattle.scan_words.specs.Place.{number}
+use Rattle.line_ends.specs.Ends.{waits}
+use Rattle.scan_words.proofs.Told.{told}
 use Rattle.scan.proofs.lines.process.Statement.{statement}
 use Rattle.scan.proofs.lines.process.Tie as tie
 

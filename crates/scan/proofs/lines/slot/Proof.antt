@@ -2,8 +2,8 @@
 -- Assumes nothing.
 use borrow.Author.Needs.{needs}
 use Rattle.grammar.specs.Parse.{slot-at}
-use Rattle.scan.specs.Place.{number}
-use Rattle.scan.proofs.Told.{told}
+use Rattle.scan_words.specs.Place.{number}
+use Rattle.scan_words.proofs.Told.{told}
 use Rattle.scan.proofs.lines.slot.Statement.{statement}
 use Rattle.scan.proofs.lines.slot.Tie as tie
 

@@ -1,0 +1,2 @@
+-- Laws of the rows that are due: Made (the array of them put together).
+pub mod Made

@@ -1,0 +1,41 @@
+-- The first of refusals 15 to 19 that applies in one combination, in the words of a plan's board and of the arrays by row of a table's met entries.
+-- Assumes nothing.
+use mathlib.Core.Bool.{Bool}
+use mathlib.Core.List.{List}
+use Prim.Native.Nat.{ℕ}
+use Rattle.lists.specs.Lists.{if_then_else_}
+use Rattle.model.specs.Plan.{Lines}
+use Rattle.board.specs.declared.Board.{Board}
+use Rattle.board.specs.Board.{Boarded}
+use Rattle.board.specs.Layout.{unmet-by}
+use Rattle.met.specs.declared.MetRows.{MetRows}
+use Rattle.meeting.specs.Meeting.{Readable}
+use Rattle.sentences.specs.Sentences.{guesses-by, off-slot-by, overlap-by, Slotted}
+use Rattle.item_pairs.specs.Sharing.{share-by, Sized}
+use Rattle.undelivered.specs.Early.{too-early-by}
+
+-- 16 in the combination with number c
+unfoldable pub too-early-in : Board → MetRows → List ℕ → ℕ → Bool
+too-early-in b m active c =
+    too-early-by (b .processes) (b .tell) (b .remote) (b .from) (b .cue) (unmet-by (b .kind) (b .condition) (b .edges) c) (b .decider) (b .intofirst) (b .into) active
+    (m .comes) (b .span) (b .rows)
+
+-- the number of the first of five sentences that applies, and 20 if none does
+abbrev pub first-of : Bool → Bool → Bool → Bool → Bool → ℕ
+first-of a b c d e = if a then 15 else if b then 16 else if c then 17 else if d then 18 else if e then 19 else 20
+
+-- the first of refusals 15 to 19 that applies in the combination with number c
+unfoldable pub first-in : Board → MetRows → List ℕ → ℕ → ℕ
+first-in b m active c =
+    first-of (guesses-by (m .comes) (b .span) (m .known) (b .tell) (b .conditions) (b .rows)) (too-early-in b m active c)
+    (off-slot-by (b .processes) (b .rows) (b .round) (b .offset) (b .sender) (m .comes) (b .span))
+    (overlap-by (b .processes) (b .node) (m .comes) (b .span))
+    (share-by (b .processes) (b .rows) (b .rooms) (b .sender) (b .size) (m .place) (m .comes) (b .span))
+
+-- the met entries of a table in a combination in which 14 finds nothing, with a board of the plan, are small enough for 15 to 19
+pub record Tried (b : Board) (m : MetRows) : Type 0 where
+  pub plan : Lines
+  pub boarded : Boarded plan b
+  pub readable : Readable (m .comes) (b .span)
+  pub slotted : Slotted (m .comes) (b .sender) (b .offset) (b .round)
+  pub sized : Sized (m .comes) (b .sender) (b .size) (m .place)

@@ -1,0 +1,23 @@
+// What the checker answers to what is found in all combinations.
+use combination::Found;
+ghost use mathlib.Core.Path.{_≡_};
+ghost use Rattle.judging.specs.Judging.{judged-by};
+
+// What the checker answers: accepted, or the number of the first refusal that applies.
+pub enum Checked {
+    Accepted,
+    Refused(u32),
+}
+
+// The answer to what is found in all combinations, given the stated delay.
+pub fn judged(found: Found, delay: u64) -> Checked
+    ensures { λ r. ⌜ r ≡ judged-by found delay ⌝ }
+{
+    if found.first != 20 {
+        return Checked::Refused(found.first);
+    }
+    if delay != found.delay as u64 {
+        return Checked::Refused(20);
+    }
+    Checked::Accepted
+}

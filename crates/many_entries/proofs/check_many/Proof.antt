@@ -1,0 +1,56 @@
+-- `many_entries::check_many` meets its contract: 13 where an entry is ill-formed, and else 14, since there are more entries than rows and combinations.
+-- Assumes nothing.
+use mathlib.Core.Path.{sym, ap, _∙_}
+use Prim.Native.Nat.{ℕ, _%_}
+use native.Mathlib.Omega.{arith}
+use borrow.Author.Needs.{needs}
+use Rattle.model.specs.Firmware.{words-of}
+use Rattle.plan.specs.Memory.{lines}
+use Rattle.words.proofs.Reading.{words-small}
+use Rattle.met.specs.Table.{Small}
+use Rattle.formed.proofs.Forms.{formed-told}
+use Rattle.judging.proofs.Answers.{answer-13}
+use Rattle.many_entries.proofs.Many.{answer-14}
+use Rattle.many_entries.proofs.check_many.Statement.{statement}
+use Rattle.many_entries.proofs.check_many.Tie as tie
+
+of-plan-requires : tie.Need-of-plan-requires
+of-plan-requires c κs = search needs
+
+how-many-requires : tie.Need-how-many-requires
+how-many-requires c κs = search needs
+
+some-ill-formed-requires : tie.Need-some-ill-formed-requires
+some-ill-formed-requires c κs = search needs
+
+returns : tie.Need-returns
+returns c =
+    let told = c .before in
+    let many = told .before .before .before in
+    let board = many .before in
+    let known = board .before in
+    let s = known .before in
+    let a = s .args in
+    let words = words-of (a .bytes .now) in
+    let small : Small words = words-small (a .bytes .now) (λ i. omega (arith, known .shared-slice-known .given i)) in
+    answer-13 (lines (a .p)) words (a .delay) (ap (λ (n : ℕ). n % 5) (sym (s .pre .1 .0)) ∙ s .pre .1 .1)
+    (formed-told (lines (a .p)) (board .of-plan .result) (board .of-plan .ensures) (many .how-many .result) (many .how-many .ensures .0) words small
+    (told .some-ill-formed .ensures) (c .if1 .taken))
+
+returns-2 : tie.Need-returns-2
+returns-2 c =
+    let told = c .before in
+    let many = told .before .before .before in
+    let board = many .before in
+    let known = board .before in
+    let s = known .before in
+    let a = s .args in
+    let words = words-of (a .bytes .now) in
+    let small : Small words = words-small (a .bytes .now) (λ i. omega (arith, known .shared-slice-known .given i)) in
+    answer-14 (lines (a .p)) words (a .delay) (s .pre .0) (ap (λ (n : ℕ). n % 5) (sym (s .pre .1 .0)) ∙ s .pre .1 .1)
+    (formed-told (lines (a .p)) (board .of-plan .result) (board .of-plan .ensures) (many .how-many .result) (many .how-many .ensures .0) words small
+    (told .some-ill-formed .ensures) (c .if1 .left))
+    (omega (arith, s .pre .1 .0, s .pre .1 .2))
+
+pub check-many-spec : {M : Type 1} → statement M
+check-many-spec = tie.close (tie.spec of-plan-requires how-many-requires some-ill-formed-requires returns returns-2)
