@@ -21,7 +21,7 @@ use Rattle.store.specs.Fits.{Fits}
 use Rattle.listing_parts.specs.Parts.{values-from, column-of, start-of, item-of, entry-of, entry-text, entries-text}
 use Rattle.listing_parts.proofs.Words.{entries-at}
 use Rattle.listing_parts.proofs.Cases.{entry-start, entry-send, entry-tell, entry-none}
-use Rattle.listing_entries.specs.Runs.{begin-by, begin-of, end-of, Holds, Lined}
+use Rattle.listing_entries.specs.Runs.{begin-by, begin-of, end-of, line-at, Holds, Lined, Alike}
 
 -- what is put at the front stands there
 pub put-holds : {l m : List ℕ} {n : ℕ} {u : List ℕ} → Put l m 0 n u → Fits l 0 u → Holds m n u
@@ -142,7 +142,7 @@ module _ (processes edges conditions row tick place : ℕ) where
           entry-none processes edges conditions row known values tick place (ltb-false row processes a) (ltb-false (row - processes) edges b) (ltb-false (row - processes - edges) conditions c)
 
 -- the entries from word i on, of which the first is one of a run, and one of a row that the plan lacks
-module _ (processes edges conditions : ℕ) (table : List ℕ) (i : ℕ) (enough : i + 5 ≤ length table) where
+module _ (processes edges conditions : ℕ) (table : List ℕ) (i : ℕ) where
   abbrev rest : List ℕ
   rest = entries-text processes edges conditions (drop (i + 5) table)
 
@@ -152,15 +152,15 @@ module _ (processes edges conditions : ℕ) (table : List ℕ) (i : ℕ) (enough
   abbrev values : ℕ
   values = getD table (i + 2) 0
 
-  pub run-next : {row tick place : ℕ} {begin last : List ℕ} → getD table i 0 ≡ row → getD table (i + 3) 0 ≡ tick → getD table (i + 4) 0 ≡ place →
-      Lined processes edges conditions row tick place begin last →
-      entries-text processes edges conditions (drop i table) ≡ (begin ++ (values-from conditions known values 0 ++ last)) ++ rest
-  run-next {row} {tick} {place} {begin} {last} r t p m =
-      let e : entry-of processes edges conditions (getD table i 0) known values (getD table (i + 3) 0) (getD table (i + 4) 0) ≡ begin ++ (values-from conditions known values 0 ++ last) =
-      rw (r, t, p) (m .line known values) in
-      entries-at table i (entry-text processes edges conditions) (omega arith) (omega arith) ∙ ap (λ (line : List ℕ). line ++ rest) e
+  pub run-next : {first : ℕ} {begin last : List ℕ} → Alike table first i →
+      Lined processes edges conditions (getD table first 0) (getD table (first + 3) 0) (getD table (first + 4) 0) begin last →
+      entries-text processes edges conditions (drop i table) ≡ line-at begin last conditions table i ++ rest
+  run-next {first} {begin} {last} s m =
+      let e : entry-of processes edges conditions (getD table i 0) known values (getD table (i + 3) 0) (getD table (i + 4) 0) ≡ line-at begin last conditions table i =
+      rw (s .row-same, s .tick-same, s .place-same) (m .line known values) in
+      entries-at table i (entry-text processes edges conditions) (omega (arith, s .enough)) (omega (arith, s .enough)) ∙ ap (λ (line : List ℕ). line ++ rest) e
 
-  pub run-none : length (begin-of processes edges conditions (getD table i 0)) ≡ 0 → entries-text processes edges conditions (drop i table) ≡ rest
-  run-none none =
+  pub run-none : i + 5 ≤ length table → length (begin-of processes edges conditions (getD table i 0)) ≡ 0 → entries-text processes edges conditions (drop i table) ≡ rest
+  run-none enough none =
       entries-at table i (entry-text processes edges conditions) (omega arith) (omega arith)
       ∙ ap (λ (line : List ℕ). line ++ rest) (lacking processes edges conditions (getD table i 0) (getD table (i + 3) 0) (getD table (i + 4) 0) none known values)

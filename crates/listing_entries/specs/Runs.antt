@@ -36,18 +36,22 @@ pub record Holds (bytes : List ℕ) (n : ℕ) (front : List ℕ) : Type 0 where
   pub within : n ≤ length bytes
   pub taken : take n bytes ≡ front
 
+-- the line of the entry from word i of a table on, which begins and ends as given
+abbrev pub line-at : List ℕ → List ℕ → ℕ → List ℕ → ℕ → List ℕ
+line-at begin last conditions table i = begin ++ (values-from conditions (getD table (i + 1) 0) (getD table (i + 2) 0) 0 ++ last)
+
 -- what each line of a row, a tick and a place begins and ends with
 pub record Lined (processes edges conditions row tick place : ℕ) (begin last : List ℕ) : Type 0 where
   pub line : (known values : ℕ) → entry-of processes edges conditions row known values tick place ≡ begin ++ (values-from conditions known values 0 ++ last)
   pub begin-long : 8 ≤ length begin
   pub last-long : 8 ≤ length last
 
--- an entry of a row, a tick and a place stands in a table from word i on
-pub record Alike (table : List ℕ) (i row tick place : ℕ) : Type 0 where
+-- an entry stands in a table from word i on that has the row, the tick and the place of the one from word `first` on
+pub record Alike (table : List ℕ) (first i : ℕ) : Type 0 where
   pub enough : i + 5 ≤ length table
-  pub row-same : getD table i 0 ≡ row
-  pub tick-same : getD table (i + 3) 0 ≡ tick
-  pub place-same : getD table (i + 4) 0 ≡ place
+  pub row-same : getD table i 0 ≡ getD table first 0
+  pub tick-same : getD table (i + 3) 0 ≡ getD table (first + 3) 0
+  pub place-same : getD table (i + 4) 0 ≡ getD table (first + 4) 0
 
 -- the lines of the entries from word `first` to word `next` are stored
 pub record Ran (processes edges conditions : ℕ) (table l m : List ℕ) (at first end next : ℕ) : Type 0 where

@@ -8,13 +8,13 @@ use store::put_long;
 use store::put_word;
 ghost use mathlib.Core.Path.{_≡_};
 ghost use mathlib.Core.Bool.{true};
-ghost use mathlib.Core.List.{_++_};
 ghost use Prim.Native.Nat.{_+_, _^_, _≤_};
 ghost use lib.ListN.{length, drop, getD};
+ghost use Rattle.text.specs.Label.{labelled};
 ghost use Rattle.text.specs.Put.{Put};
 ghost use Rattle.store.specs.Fits.{Fits};
-ghost use Rattle.listing_parts.specs.Parts.{values-from, entries-text};
-ghost use Rattle.listing_entries.specs.Runs.{begin-by, begin-of, end-of, Holds, Lined, Alike, Ran};
+ghost use Rattle.listing_parts.specs.Parts.{entries-text};
+ghost use Rattle.listing_entries.specs.Runs.{begin-by, begin-of, end-of, line-at, Holds, Lined, Alike, Ran};
 
 // Where a run ends: in the lent bytes and in the words of the table.
 struct Run {
@@ -51,13 +51,21 @@ fn put_row(out: &mut [u8], processes: usize, edges: usize, conditions: usize, ro
     0
 }
 
-// Stores how the lines of a row end at the front of some bytes: most ticks have several digits.
+// Stores a tick at the front of some bytes: most have several digits.
+fn put_tick(out: &mut [u8], tick: u32) -> usize
+    requires { ⌜ Fits (now out) 0 (labelled ") (at " tick) ⌝ }
+    ensures { λ r. ⌜ Put (now (out .entry)) (now (out .exit)) 0 r (labelled ") (at " tick) ⌝ }
+{
+    let number = put_word(out, 0, b") (at ");
+    put_digits(out, number, tick)
+}
+
+// Stores how the lines of a row end at the front of some bytes.
 fn put_end(out: &mut [u8], processes: usize, row: u32, tick: u32, place: u32) -> usize
     requires { ⌜ 48 ≤ length (now out) ⌝ }
     ensures { λ r. ⌜ Holds (now (out .exit)) r (end-of processes row tick place) ⌝ }
 {
-    let number = put_word(out, 0, b") (at ");
-    let end = put_digits(out, number, tick);
+    let end = put_tick(out, tick);
     if (row as usize) < processes {
         return put_word(out, end, b"))\n");
     }
@@ -65,7 +73,7 @@ fn put_end(out: &mut [u8], processes: usize, row: u32, tick: u32, place: u32) ->
     put_word(out, last, b"))\n")
 }
 
-// Stores a line that begins and ends as given.
+// Stores the line of the entry from word i on, which begins and ends as given.
 fn put_line(
     out: &mut [u8],
     at: usize,
@@ -73,32 +81,32 @@ fn put_line(
     last: &[u8],
     sets: u32,
     conditions: usize,
-    known: u32,
-    values: u32,
+    table: &[u32],
+    i: usize,
 ) -> usize
-    requires { ⌜ (8 ≤ length (now begin)) × (8 ≤ length (now last)) × (sets ≤ 64) × (sets ≤ 2 ^ conditions) × Fits (now out) at (now begin ++ (values-from conditions known values 0 ++ now last)) ⌝ }
-    ensures { λ r. ⌜ Put (now (out .entry)) (now (out .exit)) at r (now (begin .entry) ++ (values-from conditions known values 0 ++ now (last .entry))) ⌝ }
+    requires { ⌜ (8 ≤ length (now begin)) × (8 ≤ length (now last)) × (sets ≤ 64) × (sets ≤ 2 ^ conditions) × (i + 5 ≤ length (now table)) × Fits (now out) at (line-at (now begin) (now last) conditions (now table) i) ⌝ }
+    ensures { λ r. ⌜ Put (now (out .entry)) (now (out .exit)) at r (line-at (now (begin .entry)) (now (last .entry)) conditions (now (table .entry)) i) ⌝ }
 {
     let column = put_long(out, at, begin);
-    let end = put_values(out, column, sets, conditions, known, values);
+    let end = put_values(out, column, sets, conditions, table[i + 1], table[i + 2]);
     put_long(out, end, last)
 }
 
-// Whether an entry of a row, a tick and a place stands in a table from word i on.
-fn alike(table: &[u32], i: usize, row: u32, tick: u32, place: u32) -> bool
-    requires { ⌜ i ≤ length (now table) ⌝ }
-    ensures { λ r. ⌜ (r ≡ true → Alike (now (table .entry)) i row tick place) ⌝ }
+// Whether an entry stands in a table from word i on that has the row, the tick and the place of the one from word `first` on.
+fn alike(table: &[u32], first: usize, i: usize) -> bool
+    requires { ⌜ (first + 5 ≤ length (now table)) × (i ≤ length (now table)) ⌝ }
+    ensures { λ r. ⌜ (r ≡ true → Alike (now (table .entry)) first i) ⌝ }
 {
     if table.len() - i < 5 {
         return false;
     }
-    if table[i] != row {
+    if table[i] != table[first] {
         return false;
     }
-    if table[i + 3] != tick {
+    if table[i + 3] != table[first + 3] {
         return false;
     }
-    if table[i + 4] != place {
+    if table[i + 4] != table[first + 4] {
         return false;
     }
     true
@@ -120,24 +128,12 @@ fn put_lines(
     requires { ⌜ (first + 5 ≤ length (now table)) × Lined processes edges conditions (getD (now table) first 0) (getD (now table) (first + 3) 0) (getD (now table) (first + 4) 0) (now begin) (now last) × (sets ≤ 64) × (sets ≤ 2 ^ conditions) × Fits (now out) at (entries-text processes edges conditions (drop first (now table))) ⌝ }
     ensures { λ r. ⌜ Ran processes edges conditions (now (table .entry)) (now (out .entry)) (now (out .exit)) at first (r .end) (r .next) ⌝ }
 {
-    let row = table[first];
-    let tick = table[first + 3];
-    let place = table[first + 4];
     let mut end = at;
     let mut i = first;
     loop {
-        end = put_line(
-            out,
-            end,
-            begin,
-            last,
-            sets,
-            conditions,
-            table[i + 1],
-            table[i + 2],
-        );
+        end = put_line(out, end, begin, last, sets, conditions, table, i);
         i += 5;
-        if !alike(table, i, row, tick, place) {
+        if !alike(table, first, i) {
             return Run { end, next: i };
         }
     }
