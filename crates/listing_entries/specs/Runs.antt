@@ -36,6 +36,11 @@ pub record Holds (bytes : List ℕ) (n : ℕ) (front : List ℕ) : Type 0 where
   pub within : n ≤ length bytes
   pub taken : take n bytes ≡ front
 
+-- how the lines of a row that the plan has begin
+pub record Begun (processes edges conditions row : ℕ) (begin : List ℕ) : Type 0 where
+  pub whole : begin ≡ begin-of processes edges conditions row
+  pub some : length begin ≡ 0 → ⊥
+
 -- the line of the entry from word i of a table on, which begins and ends as given
 abbrev pub line-at : List ℕ → List ℕ → ℕ → List ℕ → ℕ → List ℕ
 line-at begin last conditions table i = begin ++ (values-from conditions (getD table (i + 1) 0) (getD table (i + 2) 0) 0 ++ last)

@@ -1,5 +1,5 @@
 // The lines of a table stored from a place on in lent bytes that have room for them. The entries of one row, one tick and one place that
-// follow each other are a run: how their lines begin and end is worked out once.
+// follow each other are a run: how their lines end is worked out once, and how they begin once for the runs of one row.
 use listing_column::known_sets;
 use listing_column::put_values;
 use store::put_digits;
@@ -14,9 +14,9 @@ ghost use Rattle.text.specs.Label.{labelled};
 ghost use Rattle.text.specs.Put.{Put};
 ghost use Rattle.store.specs.Fits.{Fits};
 ghost use Rattle.listing_parts.specs.Parts.{entries-text};
-ghost use Rattle.listing_entries.specs.Runs.{begin-by, begin-of, end-of, line-at, Holds, Lined, Alike, Ran};
+ghost use Rattle.listing_entries.specs.Runs.{begin-by, begin-of, end-of, line-at, Holds, Begun, Lined, Alike, Ran};
 
-// Where a run ends: in the lent bytes and in the words of the table.
+// Where a run, or the runs of a row, end: in the lent bytes and in the words of the table.
 struct Run {
     end: usize,
     next: usize,
@@ -32,7 +32,7 @@ fn put_begin(out: &mut [u8], label: &[u8], number: u32) -> usize
 }
 
 // Stores how the lines of a row begin at the front of some bytes: nothing if the plan lacks the row.
-fn put_row(out: &mut [u8], processes: usize, edges: usize, conditions: usize, row: u32) -> usize
+fn put_first(out: &mut [u8], processes: usize, edges: usize, conditions: usize, row: u32) -> usize
     requires { ⌜ 32 ≤ length (now out) ⌝ }
     ensures { λ r. ⌜ Holds (now (out .exit)) r (begin-of processes edges conditions row) ⌝ }
 {
@@ -112,7 +112,8 @@ fn alike(table: &[u32], first: usize, i: usize) -> bool
     true
 }
 
-// Stores the lines of a run that begins at word `first`, each of which begins and ends as given.
+// Stores the lines of the run that begins at word `first`, each of which begins and ends as given. How many processes and edges the plan
+// has tells which lines these are.
 fn put_lines(
     out: &mut [u8],
     at: usize,
@@ -139,8 +140,93 @@ fn put_lines(
     }
 }
 
-// Stores the lines of the run that begins at word `first`.
+// Stores the lines of the run that begins at word `first`, each of which begins as given.
 fn put_run(
+    out: &mut [u8],
+    at: usize,
+    processes: usize,
+    edges: usize,
+    conditions: usize,
+    sets: u32,
+    begin: &[u8],
+    table: &[u32],
+    first: usize,
+) -> Run
+    requires { ⌜ (first + 5 ≤ length (now table)) × Begun processes edges conditions (getD (now table) first 0) (now begin) × (sets ≤ 64) × (sets ≤ 2 ^ conditions) × Fits (now out) at (entries-text processes edges conditions (drop first (now table))) ⌝ }
+    ensures { λ r. ⌜ Ran processes edges conditions (now (table .entry)) (now (out .entry)) (now (out .exit)) at first (r .end) (r .next) ⌝ }
+{
+    let row = table[first];
+    let tick = table[first + 3];
+    let place = table[first + 4];
+    let mut last = [0u8; 48];
+    let long = put_end(&mut last, processes, row, tick, place);
+    put_lines(
+        out,
+        at,
+        processes,
+        edges,
+        conditions,
+        sets,
+        begin,
+        &last[..long],
+        table,
+        first,
+    )
+}
+
+// Whether an entry stands in a table from word i on that has the row of the one from word `first` on.
+fn same_row(table: &[u32], first: usize, i: usize) -> bool
+    requires { ⌜ (first + 5 ≤ length (now table)) × (i ≤ length (now table)) ⌝ }
+    ensures { λ r. ⌜ (r ≡ true → (i + 5 ≤ length (now (table .entry))) × (getD (now (table .entry)) i 0 ≡ getD (now (table .entry)) first 0)) ⌝ }
+{
+    if table.len() - i < 5 {
+        return false;
+    }
+    if table[i] != table[first] {
+        return false;
+    }
+    true
+}
+
+// Stores the lines of the runs of one row, of which the first begins at word `first`, each of which begins as given.
+fn put_runs(
+    out: &mut [u8],
+    at: usize,
+    processes: usize,
+    edges: usize,
+    conditions: usize,
+    sets: u32,
+    begin: &[u8],
+    table: &[u32],
+    first: usize,
+) -> Run
+    requires { ⌜ (first + 5 ≤ length (now table)) × Begun processes edges conditions (getD (now table) first 0) (now begin) × (sets ≤ 64) × (sets ≤ 2 ^ conditions) × Fits (now out) at (entries-text processes edges conditions (drop first (now table))) ⌝ }
+    ensures { λ r. ⌜ Ran processes edges conditions (now (table .entry)) (now (out .entry)) (now (out .exit)) at first (r .end) (r .next) ⌝ }
+{
+    let mut end = at;
+    let mut i = first;
+    loop {
+        let run = put_run(
+            out,
+            end,
+            processes,
+            edges,
+            conditions,
+            sets,
+            begin,
+            table,
+            i,
+        );
+        end = run.end;
+        i = run.next;
+        if !same_row(table, first, i) {
+            return Run { end, next: i };
+        }
+    }
+}
+
+// Stores the lines of the entries of one row that follow each other from word `first` on.
+fn put_row(
     out: &mut [u8],
     at: usize,
     processes: usize,
@@ -153,28 +239,22 @@ fn put_run(
     requires { ⌜ (first + 5 ≤ length (now table)) × (sets ≤ 64) × (sets ≤ 2 ^ conditions) × Fits (now out) at (entries-text processes edges conditions (drop first (now table))) ⌝ }
     ensures { λ r. ⌜ Ran processes edges conditions (now (table .entry)) (now (out .entry)) (now (out .exit)) at first (r .end) (r .next) ⌝ }
 {
-    let row = table[first];
-    let tick = table[first + 3];
-    let place = table[first + 4];
     let mut begin = [0u8; 32];
-    let mut last = [0u8; 48];
-    let b = put_row(&mut begin, processes, edges, conditions, row);
-    if b == 0 {
+    let long = put_first(&mut begin, processes, edges, conditions, table[first]);
+    if long == 0 {
         return Run {
             end: at,
             next: first + 5,
         };
     }
-    let e = put_end(&mut last, processes, row, tick, place);
-    put_lines(
+    put_runs(
         out,
         at,
         processes,
         edges,
         conditions,
         sets,
-        &begin[..b],
-        &last[..e],
+        &begin[..long],
         table,
         first,
     )
@@ -197,9 +277,9 @@ pub fn put_entries(
     let mut end = at;
     let mut i: usize = 0;
     while 4 < n - i {
-        let run = put_run(out, end, processes, edges, conditions, sets, table, i);
-        end = run.end;
-        i = run.next;
+        let row = put_row(out, end, processes, edges, conditions, sets, table, i);
+        end = row.end;
+        i = row.next;
     }
     end
 }

@@ -1,4 +1,4 @@
--- `listing_entries::put_entries` meets its contract: before each run the entries of the words from i on are still to be stored.
+-- `listing_entries::put_entries` meets its contract: before each row the entries of the words from i on are still to be stored.
 -- Assumes nothing.
 use native.Mathlib.Omega.{arith}
 use Prim.Native.Nat.{_-_, _≤_}
@@ -26,20 +26,20 @@ loop-holds c = (omega arith, going-start _ _ _)
 sub-loop : tie.Need-sub-loop Inv-loop μ-loop
 sub-loop c = omega arith
 
-put-run-requires : tie.Need-put-run-requires Inv-loop μ-loop
-put-run-requires c κs =
+put-row-requires : tie.Need-put-row-requires Inv-loop μ-loop
+put-row-requires c κs =
     let l = c .before .before .loop in
     let s = c .before .before .before .known-sets .ensures in
     (omega arith, s .0, s .1, going-fits (l .inv .1) (c .before .before .before .before .before .before .pre))
 
 loop-less : tie.Need-loop-less Inv-loop μ-loop
 loop-less c =
-    let r = c .before .before .put-run .ensures in
+    let r = c .before .before .put-row .ensures in
     omega (arith, r .forth, r .within)
 
 loop-again : tie.Need-loop-again Inv-loop μ-loop
 loop-again c =
-    let r = c .before .before .put-run .ensures in
+    let r = c .before .before .put-row .ensures in
     (r .within, going-on (c .before .before .before .before .before .loop .inv .1) (r .going))
 
 same-length : tie.Need-same-length Inv-loop μ-loop
@@ -60,7 +60,7 @@ put-entries-spec =
     known-sets-requires
     loop-holds
     sub-loop
-    put-run-requires
+    put-row-requires
     loop-less
     loop-again
     same-length

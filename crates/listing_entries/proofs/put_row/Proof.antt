@@ -1,89 +1,66 @@
--- `listing_entries::put_row` meets its contract: the row tells which text is stored.
+-- `listing_entries::put_row` meets its contract: how the lines begin is worked out, and a row that the plan lacks has no line.
 -- Assumes nothing.
-use mathlib.Core.Path.{refl}
+use mathlib.Core.Path.{sym, _∙_}
 use native.Mathlib.Omega.{arith}
-use Prim.Native.Nat.{_-_}
-use Rattle.model.specs.Text.{text}
-use Rattle.listing_entries.proofs.Laws.{put-holds, begin-fits, begin-start, begin-send, begin-tell, begin-none}
+use lib.Seq.{length-take-le}
+use Rattle.store.proofs.Stored.{going-start}
+use Rattle.listing_entries.proofs.Laws.{holds-length, run-none}
 use borrow.Author.Needs.{needs}
 use Rattle.listing_entries.proofs.put_row.Statement.{statement}
 use Rattle.listing_entries.proofs.put_row.Tie as tie
 
-slice-aggregate-put-begin : tie.Need-slice-aggregate-put-begin
-slice-aggregate-put-begin c = search needs
+slice-aggregate-put-first : tie.Need-slice-aggregate-put-first
+slice-aggregate-put-first c = search needs
 
-put-begin-requires : tie.Need-put-begin-requires
-put-begin-requires c κs =
-    let a = c .before .before .before .before in
-    begin-fits (text "(start ") (a .args .row) (omega arith) (omega arith) (a .pre)
+mul-put-first : tie.Need-mul-put-first
+mul-put-first c = search needs
 
-same-length : tie.Need-same-length
-same-length c = search needs
+shared-slice-read-put-first : tie.Need-shared-slice-read-put-first
+shared-slice-read-put-first c = search needs
+
+put-first-requires : tie.Need-put-first-requires
+put-first-requires c κs = search needs
+
+add-t17 : tie.Need-add-t17
+add-t17 c = search needs
 
 returns : tie.Need-returns
 returns c =
     let a = c .before .before .before .before .before .before .before in
-    rw (begin-start (a .args .processes) (a .args .edges) (a .args .conditions) (a .args .row) (omega arith)) (put-holds (c .before .before .put-begin .ensures) (begin-fits (text "(start ") (a .args .row) (omega arith) (omega arith) (a .pre)))
+    let h = c .before .before .put-first .ensures in
+    let e = run-none (a .args .processes) (a .args .edges) (a .args .conditions) (a .args .table .now) (a .args .first) (a .pre .0) (holds-length h ∙ c .if1 .taken) in
+    record { forth = omega arith; within = a .pre .0; going = rw e (going-start _ _ _) }
 
-slice-aggregate-put-begin-2 : tie.Need-slice-aggregate-put-begin-2
-slice-aggregate-put-begin-2 c = search needs
+array-share-prefix-begin : tie.Need-array-share-prefix-begin
+array-share-prefix-begin c = search needs
 
-cast-put-begin : tie.Need-cast-put-begin
-cast-put-begin c = search needs
+slice-aggregate-put-runs : tie.Need-slice-aggregate-put-runs
+slice-aggregate-put-runs c = sym (length-take-le _ _ (c .before .before .before .before .put-first .ensures .within))
 
-put-begin-requires-2 : tie.Need-put-begin-requires-2
-put-begin-requires-2 c κs =
-    let a = c .before .before .before .before .before in
-    begin-fits (text "(send ") (a .args .row - a .args .processes) (omega arith) (omega arith) (a .pre)
+put-runs-requires : tie.Need-put-runs-requires
+put-runs-requires c κs =
+    let a = c .before .before .before .before .before .before .before .before .before in
+    let h = c .before .before .before .before .put-first .ensures in
+    (a .pre .0, record { whole = h .taken; some = λ none. c .before .before .if1 .left (sym (length-take-le _ _ (h .within)) ∙ none) }, a .pre .1, a .pre .2, a .pre .3)
 
-same-length-2 : tie.Need-same-length-2
-same-length-2 c = search needs
+same-length : tie.Need-same-length
+same-length c = search needs
 
 returns-2 : tie.Need-returns-2
-returns-2 c =
-    let a = c .before .before .before .before .before .before .before .before in
-    rw (begin-send (a .args .processes) (a .args .edges) (a .args .conditions) (a .args .row) (omega arith) (omega arith)) (put-holds (c .before .before .put-begin2 .ensures) (begin-fits (text "(send ") (a .args .row - a .args .processes) (omega arith) (omega arith) (a .pre)))
-
-slice-aggregate-put-begin-3 : tie.Need-slice-aggregate-put-begin-3
-slice-aggregate-put-begin-3 c = search needs
-
-cast-put-begin-2 : tie.Need-cast-put-begin-2
-cast-put-begin-2 c = search needs
-
-put-begin-requires-3 : tie.Need-put-begin-requires-3
-put-begin-requires-3 c κs =
-    let a = c .before .before .before .before .before .before in
-    begin-fits (text "(tell ") (a .args .row - a .args .processes - a .args .edges) (omega arith) (omega arith) (a .pre)
-
-same-length-3 : tie.Need-same-length-3
-same-length-3 c = search needs
-
-returns-3 : tie.Need-returns-3
-returns-3 c =
-    let a = c .before .before .before .before .before .before .before .before .before in
-    rw (begin-tell (a .args .processes) (a .args .edges) (a .args .conditions) (a .args .row) (omega arith) (omega arith) (omega arith)) (put-holds (c .before .before .put-begin3 .ensures) (begin-fits (text "(tell ") (a .args .row - a .args .processes - a .args .edges) (omega arith) (omega arith) (a .pre)))
-
-returns-4 : tie.Need-returns-4
-returns-4 c =
-    let a = c .before .before .before .before in
-    rw (begin-none (a .args .processes) (a .args .edges) (a .args .conditions) (a .args .row) (omega arith) (omega arith) (omega arith)) (record { within = omega arith; taken = refl })
+returns-2 c = search needs
 
 pub put-row-spec : {M : Type 1} → statement M
 put-row-spec =
     tie.close
     (tie.spec
-    slice-aggregate-put-begin
-    put-begin-requires
-    same-length
+    slice-aggregate-put-first
+    mul-put-first
+    shared-slice-read-put-first
+    put-first-requires
+    add-t17
     returns
-    slice-aggregate-put-begin-2
-    cast-put-begin
-    put-begin-requires-2
-    same-length-2
-    returns-2
-    slice-aggregate-put-begin-3
-    cast-put-begin-2
-    put-begin-requires-3
-    same-length-3
-    returns-3
-    returns-4)
+    array-share-prefix-begin
+    slice-aggregate-put-runs
+    put-runs-requires
+    same-length
+    returns-2)

@@ -1,12 +1,10 @@
--- `listing_entries::put_run` meets its contract: how the lines begin and end is worked out, and a row that the plan lacks has no line.
+-- `listing_entries::put_run` meets its contract: how the lines end is worked out, and each begins as given.
 -- Assumes nothing.
-use mathlib.Core.Path.{sym, _∙_}
-use native.Mathlib.Omega.{arith}
+use mathlib.Core.Path.{sym, ap, _∙_}
 use Prim.Native.Nat.{_+_}
-use lib.ListN.{getD}
+use lib.ListN.{length, getD}
 use lib.Seq.{length-take-le}
-use Rattle.store.proofs.Stored.{going-start}
-use Rattle.listing_entries.proofs.Laws.{holds-length, lined, run-none}
+use Rattle.listing_entries.proofs.Laws.{lined}
 use borrow.Author.Needs.{needs}
 use Rattle.listing_entries.proofs.put_run.Statement.{statement}
 use Rattle.listing_entries.proofs.put_run.Tie as tie
@@ -35,54 +33,33 @@ mul-place c = search needs
 shared-slice-read-place : tie.Need-shared-slice-read-place
 shared-slice-read-place c = search needs
 
-slice-aggregate-put-row : tie.Need-slice-aggregate-put-row
-slice-aggregate-put-row c = search needs
-
-put-row-requires : tie.Need-put-row-requires
-put-row-requires c κs = search needs
-
-add-t25 : tie.Need-add-t25
-add-t25 c = search needs
-
-returns : tie.Need-returns
-returns c =
-    let a = c .before .before .before .before .before .before .before .before .before in
-    let h = c .before .before .put-row .ensures in
-    record { forth = omega arith; within = a .pre .0; going = rw (run-none (a .args .processes) (a .args .edges) (a .args .conditions) (a .args .table .now) (a .args .first) (a .pre .0) (holds-length h ∙ c .if1 .taken)) (going-start _ _ _) }
-
 slice-aggregate-put-end : tie.Need-slice-aggregate-put-end
 slice-aggregate-put-end c = search needs
 
 put-end-requires : tie.Need-put-end-requires
 put-end-requires c κs = search needs
 
-array-share-prefix-begin : tie.Need-array-share-prefix-begin
-array-share-prefix-begin c = search needs
-
-slice-aggregate-put-lines : tie.Need-slice-aggregate-put-lines
-slice-aggregate-put-lines c = sym (length-take-le _ _ (c .before .before .before .before .before .before .before .put-row .ensures .within))
-
 array-share-prefix-last : tie.Need-array-share-prefix-last
 array-share-prefix-last c = search needs
 
-slice-aggregate-put-lines-2 : tie.Need-slice-aggregate-put-lines-2
-slice-aggregate-put-lines-2 c = sym (length-take-le _ _ (c .before .before .before .before .put-end .ensures .within))
+slice-aggregate-put-lines : tie.Need-slice-aggregate-put-lines
+slice-aggregate-put-lines c = sym (length-take-le _ _ (c .before .before .before .put-end .ensures .within))
 
 put-lines-requires : tie.Need-put-lines-requires
 put-lines-requires c κs =
-    let a = c .before .before .before .before .before .before .before .before .before .before .before .before .before .before .before in
-    let h = c .before .before .before .before .before .before .before .before .put-row .ensures in
-    let g = c .before .before .before .before .put-end .ensures in
+    let a = c .before .before .before .before .before .before .before .before .before .before .before in
+    let h = a .pre .1 in
+    let g = c .before .before .before .put-end .ensures in
     let ws = a .args .table .now in
     let first = a .args .first in
-    let m = lined (a .args .processes) (a .args .edges) (a .args .conditions) (getD ws first 0) (getD ws (first + 3) 0) (getD ws (first + 4) 0) (λ none. c .before .before .before .before .before .before .if1 .left (sym (holds-length h) ∙ none)) in
-    (a .pre .0, rw (h .taken, g .taken) m, a .pre .1, a .pre .2, a .pre .3)
+    let m = lined (a .args .processes) (a .args .edges) (a .args .conditions) (getD ws first 0) (getD ws (first + 3) 0) (getD ws (first + 4) 0) (λ none. h .some (ap length (h .whole) ∙ none)) in
+    (a .pre .0, rw (h .whole, g .taken) m, a .pre .2, a .pre .3, a .pre .4)
 
 same-length : tie.Need-same-length
 same-length c = search needs
 
-returns-2 : tie.Need-returns-2
-returns-2 c = search needs
+returns : tie.Need-returns
+returns c = search needs
 
 pub put-run-spec : {M : Type 1} → statement M
 put-run-spec =
@@ -96,16 +73,10 @@ put-run-spec =
     add-place
     mul-place
     shared-slice-read-place
-    slice-aggregate-put-row
-    put-row-requires
-    add-t25
-    returns
     slice-aggregate-put-end
     put-end-requires
-    array-share-prefix-begin
-    slice-aggregate-put-lines
     array-share-prefix-last
-    slice-aggregate-put-lines-2
+    slice-aggregate-put-lines
     put-lines-requires
     same-length
-    returns-2)
+    returns)
