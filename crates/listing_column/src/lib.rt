@@ -1,12 +1,11 @@
-// The column of a table's line, with its tick, stored from a place on in lent bytes that have room for it.
+// The conditions of a column of a table's line, stored from a place on in lent bytes that have room for it.
 use store::put_digit;
-use store::put_digits;
 use store::put_labelled;
 use store::put_word;
 ghost use Prim.Native.Nat.{_^_, _≤_, _<_};
 ghost use Rattle.text.specs.Put.{Put};
 ghost use Rattle.store.specs.Fits.{Fits};
-ghost use Rattle.listing_parts.specs.Parts.{value-at, values-from, column-of};
+ghost use Rattle.listing_parts.specs.Parts.{value-at, values-from};
 
 // Stores condition k of a column, if it is known: the lowest bits of `known` and `values` are its.
 fn put_value(out: &mut [u8], at: usize, known: u32, values: u32, k: u32) -> usize
@@ -77,7 +76,7 @@ fn put_six(out: &mut [u8], at: usize, known: u32, values: u32) -> usize
 }
 
 // How many sets of known conditions a plan has, where it has at most six conditions; otherwise none.
-fn known_sets(conditions: usize) -> u32
+pub fn known_sets(conditions: usize) -> u32
     ensures { λ r. ⌜ (r ≤ 64) × (r ≤ 2 ^ conditions) ⌝ }
 {
     if 6 < conditions {
@@ -104,31 +103,20 @@ fn known_sets(conditions: usize) -> u32
     64
 }
 
-// Stores the known conditions of a column that the plan has.
-fn put_values(out: &mut [u8], at: usize, conditions: usize, known: u32, values: u32) -> usize
-    requires { ⌜ Fits (now out) at (values-from conditions known values 0) ⌝ }
-    ensures { λ r. ⌜ Put (now (out .entry)) (now (out .exit)) at r (values-from conditions known values 0) ⌝ }
-{
-    if known < known_sets(conditions) {
-        return put_six(out, at, known, values);
-    }
-    put_each(out, at, conditions, known, values)
-}
-
-// Stores a column and its tick, up to the tick's last digit: most ticks have several.
-pub fn put_column(
+// Stores the known conditions of a column that the plan has, by how many sets of known conditions it has.
+pub fn put_values(
     out: &mut [u8],
     at: usize,
+    sets: u32,
     conditions: usize,
     known: u32,
     values: u32,
-    tick: u32,
 ) -> usize
-    requires { ⌜ Fits (now out) at (column-of conditions known values tick) ⌝ }
-    ensures { λ r. ⌜ Put (now (out .entry)) (now (out .exit)) at r (column-of conditions known values tick) ⌝ }
+    requires { ⌜ (sets ≤ 64) × (sets ≤ 2 ^ conditions) × Fits (now out) at (values-from conditions known values 0) ⌝ }
+    ensures { λ r. ⌜ Put (now (out .entry)) (now (out .exit)) at r (values-from conditions known values 0) ⌝ }
 {
-    let when = put_word(out, at, b" (when");
-    let end = put_values(out, when, conditions, known, values);
-    let number = put_word(out, end, b") (at ");
-    put_digits(out, number, tick)
+    if known < sets {
+        return put_six(out, at, known, values);
+    }
+    put_each(out, at, conditions, known, values)
 }

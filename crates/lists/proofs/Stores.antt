@@ -1,11 +1,11 @@
 -- A run of stores: of one list after another, of a list at the front, and what stands where afterwards.
 -- Assumes nothing.
 use mathlib.Core.Path.{_≡_, refl, ap, _∙_}
-use mathlib.Core.List.{List, [], _∷_, _++_}
+use mathlib.Core.List.{List, [], _∷_, _++_, append-nil}
 use Prim.Native.Nat.{ℕ, zero, suc, _+_, _≤_, _<_}
 use native.Mathlib.Omega.{arith}
-use lib.ListN.{length, getD, set, length-set}
-use lib.Seq.{sets, sets-eq, getD-set-same, getD-set-other}
+use lib.ListN.{length, getD, set, take, drop, length-set}
+use lib.Seq.{sets, sets-eq, set-set, set-comm, drop-length, take-append-seam, getD-set-same, getD-set-other}
 use Rattle.lists.specs.Front.{front}
 
 module _ {A : Type 0} where
@@ -16,6 +16,27 @@ module _ {A : Type 0} where
   pub sets-front : (u l : List A) → length u ≤ length l → sets l 0 u ≡ front u l
   unfolding front
   sets-front u l h = let e : 0 + length u ≡ length u = omega arith in sets-eq u l 0 (omega arith) ∙ rw e
+
+  -- the front that was stored, and the whole where nothing else is left
+  pub sets-taken : (u l : List A) → length u ≤ length l → take (length u) (sets l 0 u) ≡ u
+  unfolding front
+  sets-taken u l h = ap (take (length u)) (sets-front u l h) ∙ take-append-seam u (drop (length u) l)
+
+  pub sets-whole : (u l : List A) → length u ≡ length l → sets l 0 u ≡ u
+  unfolding front
+  sets-whole u l h = sets-front u l (omega arith) ∙ ap (λ (n : ℕ). u ++ drop n l) h ∙ rw (drop-length l, append-nil u)
+
+  -- a store before a run of stores and after it, and a run over a run from the same place that is no longer
+  set-before : (u l : List A) (i j : ℕ) (b : A) → j < i → set (sets l i u) j b ≡ sets (set l j b) i u
+  set-before [] l i j b h = refl
+  set-before (a ∷ u) l i j b h = set-before u (set l i a) (suc i) j b (omega arith) ∙ ap (λ (m : List A). sets m (suc i) u) (set-comm l i j a b (λ e. omega arith))
+
+  pub sets-over : (u v l : List A) (i : ℕ) → length u ≤ length v → sets (sets l i u) i v ≡ sets l i v
+  sets-over [] v l i h = refl
+  sets-over (a ∷ u) [] l i h = absurd (omega arith)
+  sets-over (a ∷ u) (b ∷ v) l i h =
+      ap (λ (m : List A). sets m (suc i) v) (set-before u (set l i a) (suc i) i b (omega arith) ∙ ap (λ (m : List A). sets m (suc i) u) (set-set l i a b))
+      ∙ sets-over u v (set l i b) (suc i) (omega arith)
 
 -- before the first place and behind the last everything is as it was, and between them stands what was stored
 pub sets-before : (xs : List ℕ) (i j : ℕ) (vs : List ℕ) → j < i → getD (sets xs i vs) j 0 ≡ getD xs j 0

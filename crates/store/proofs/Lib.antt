@@ -1,3 +1,4 @@
--- Laws of what is stored: Digits (decimal digits), Stored (texts stored one after another).
+-- Laws of what is stored: Digits (decimal digits), Halves (a word in two parts), Stored (texts stored one after another).
 pub mod Digits
+pub mod Halves
 pub mod Stored

@@ -10,17 +10,13 @@ use Rattle.lists.proofs.Stores.{sets-append}
 use Rattle.text.specs.Put.{Put}
 use Rattle.text.proofs.Puts.{put-length}
 use Rattle.store.specs.Fits.{Fits}
+use Rattle.store.specs.Going.{Going}
 
 pub fits-first : {l : List ℕ} {at : ℕ} (u v : List ℕ) → Fits l at (u ++ v) → Fits l at u
 fits-first u v f = record { within = omega (arith, f .within, length-append u v) }
 
 pub fits-rest : {l m : List ℕ} {at i : ℕ} {u : List ℕ} → Put l m at i u → (v : List ℕ) → Fits l at (u ++ v) → Fits m i v
 fits-rest {u = u} p v f = record { within = omega (arith, f .within, p .count, length-append u v, put-length p) }
-
--- stored so far from `at` to `end`, with the rest of the whole still to come
-pub record Going (l m : List ℕ) (at end : ℕ) (whole rest : List ℕ) : Type 0 where
-  pub count : at + length whole ≡ end + length rest
-  pub holds : sets l at whole ≡ sets m end rest
 
 pub going-start : (l : List ℕ) (at : ℕ) (whole : List ℕ) → Going l l at at whole whole
 going-start l at whole = record { count = refl; holds = refl }
@@ -41,3 +37,7 @@ module _ {l m : List ℕ} {at end : ℕ} {whole rest : List ℕ} (g : Going l m 
 
   pub going-end : rest ≡ [] → Put l m at end whole
   going-end e = record { count = omega (arith, g .count, ap length e); holds = sym (g .holds ∙ ap (sets m end) e) }
+
+  -- what was stored next leaves a rest of the rest
+  pub going-on : {n : List ℕ} {next : ℕ} {last : List ℕ} → Going m n end next rest last → Going l n at next whole last
+  going-on h = record { count = omega (arith, g .count, h .count); holds = g .holds ∙ h .holds }

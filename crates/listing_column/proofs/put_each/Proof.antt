@@ -6,7 +6,8 @@ use native.Mathlib.Omega.{arith}
 use Prim.Native.Nat.{_+_, _-_, _≤_}
 use Rattle.listing_parts.specs.Parts.{value-at, values-from}
 use Rattle.listing_parts.proofs.Cases.{values-next, values-past, values-none}
-use Rattle.store.proofs.Stored.{Going, going-start, going-length, going-fits, going-next, going-end, fits-first}
+use Rattle.store.specs.Going.{Going}
+use Rattle.store.proofs.Stored.{going-start, going-length, going-fits, going-next, going-end, fits-first}
 use Rattle.listing_column.proofs.put_each.Statement.{statement}
 use borrow.Author.Needs.{needs}
 use Rattle.listing_column.proofs.put_each.Tie as tie

@@ -6,21 +6,18 @@ use borrow.Author.Needs.{needs}
 use Rattle.listing_column.proofs.put_values.Statement.{statement}
 use Rattle.listing_column.proofs.put_values.Tie as tie
 
-known-sets-requires : tie.Need-known-sets-requires
-known-sets-requires c κs = search needs
-
 put-six-requires : tie.Need-put-six-requires
 put-six-requires c κs =
-    let a = c .before .before .before .before in
-    rw (values-same (a .args .conditions) 6 (a .args .known) (a .args .values) 0 (omega (arith, c .before .before .known-sets .ensures .1)) (omega (arith, c .before .before .known-sets .ensures .0))) at (a .pre)
+    let a = c .before .before .before in
+    rw (values-same (a .args .conditions) 6 (a .args .known) (a .args .values) 0 (omega (arith, a .pre .1)) (omega (arith, a .pre .0))) at (a .pre .2)
 
 same-length : tie.Need-same-length
 same-length c = search needs
 
 returns : tie.Need-returns
 returns c =
-    let a = c .before .before .before .before .before .before .before in
-    rw (values-same (a .args .conditions) 6 (a .args .known) (a .args .values) 0 (omega (arith, c .before .before .before .before .before .known-sets .ensures .1)) (omega (arith, c .before .before .before .before .before .known-sets .ensures .0))) (c .before .before .put-six .ensures)
+    let a = c .before .before .before .before .before .before in
+    rw (values-same (a .args .conditions) 6 (a .args .known) (a .args .values) 0 (omega (arith, a .pre .1)) (omega (arith, a .pre .0))) (c .before .before .put-six .ensures)
 
 put-each-requires : tie.Need-put-each-requires
 put-each-requires c κs = search needs
@@ -35,7 +32,6 @@ pub put-values-spec : {M : Type 1} → statement M
 put-values-spec =
     tie.close
     (tie.spec
-    known-sets-requires
     put-six-requires
     same-length
     returns

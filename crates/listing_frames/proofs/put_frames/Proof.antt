@@ -5,7 +5,8 @@ use Prim.Native.Nat.{_+_, _-_, _≤_}
 use lib.ListN.{length, getD, drop}
 use Rattle.listing_parts.specs.Parts.{frame-of, frame-text, frames-text}
 use Rattle.listing_parts.proofs.Words.{frames-at, frames-end}
-use Rattle.store.proofs.Stored.{Going, going-start, going-length, going-fits, going-next, going-end, fits-first}
+use Rattle.store.specs.Going.{Going}
+use Rattle.store.proofs.Stored.{going-start, going-length, going-fits, going-next, going-end, fits-first}
 use Rattle.listing_frames.proofs.put_frames.Statement.{statement}
 use borrow.Author.Needs.{needs}
 use Rattle.listing_frames.proofs.put_frames.Tie as tie
