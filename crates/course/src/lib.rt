@@ -75,6 +75,7 @@ pub fn course<'a>(
     let mut under = flight;
     let mut told = start;
     let mut come = start;
+    let mut ending = start;
     let mut u = start;
     while u <= 1000000000 {
         let s = event(
@@ -105,6 +106,7 @@ pub fn course<'a>(
             come,
             under,
             told,
+            ending,
             &mut run,
             &mut busy,
             comes,
@@ -119,6 +121,7 @@ pub fn course<'a>(
         under = s.flight;
         told = s.told;
         come = s.come;
+        ending = s.ends;
         u = s.u;
     }
 }

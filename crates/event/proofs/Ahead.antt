@@ -38,7 +38,7 @@ sooner-after least x u l = at (sooner least x u)
     at (later a b q) = omega (arith, q)
     at (first a b q) = omega (arith, q)
 
-sooner-least : (least x u : ℕ) → sooner-by least x u ≤ least
+pub sooner-least : (least x u : ℕ) → sooner-by least x u ≤ least
 sooner-least least x u = at (sooner least x u)
   where
     at : Sooner least x u → sooner-by least x u ≤ least
@@ -94,7 +94,7 @@ sooner-below least x u z l h = at (sooner least x u)
     at (later a b q) = omega (arith, q)
     at (first a b q) = omega (arith, q, h a)
 
-ahead : {x c u : ℕ} → (x ≤ u) ⊎ (c ≤ x) → u < x → c ≤ x
+pub ahead : {x c u : ℕ} → (x ≤ u) ⊎ (c ≤ x) → u < x → c ≤ x
 ahead (inl h) l = absurd (omega arith)
 ahead (inr h) l = h
 
@@ -104,7 +104,7 @@ module _ (flight : ℕ) (busy : List ℕ) (u : ℕ) where
   come-most zero = sooner-least no-event flight u
   come-most (suc n) = let l = come-most n in let m = sooner-least (come-by flight busy u n) (getD busy n 0) u in omega (arith, l, m)
 
-  come-below : (z n : ℕ) → z ≤ no-event → (u < flight → z ≤ flight) → ((k : ℕ) → k < n → u < getD busy k 0 → z ≤ getD busy k 0) → z ≤ come-by flight busy u n
+  pub come-below : (z n : ℕ) → z ≤ no-event → (u < flight → z ≤ flight) → ((k : ℕ) → k < n → u < getD busy k 0 → z ≤ getD busy k 0) → z ≤ come-by flight busy u n
   unfolding come-by
   come-below z zero l f h = sooner-below no-event flight u z l f
   come-below z (suc n) l f h = sooner-below (come-by flight busy u n) (getD busy n 0) u z (come-below z n l f (λ k m. h k (omega arith))) (h n (omega arith))

@@ -17,7 +17,7 @@ use Rattle.starting.proofs.Ends.{set-there}
 use Rattle.board.specs.declared.Board.{Board}
 use Rattle.serving.specs.Serving.{no-event, Bus, bus, fill-by, due-from, attend-node, attend-below}
 use Rattle.event.specs.Course.{Moment, begins-by, slot-at-by, serve-by, next-slot, nearer-by, event-by, serves, waiting, Fits}
-use Rattle.event.specs.Kept.{served-by, event-now}
+use Rattle.event.specs.Kept.{event-now}
 use Rattle.event.proofs.Ahead.{First, found, missing, first-below}
 use Rattle.event.proofs.Loops.{nearer-stays, nearer-moves, nearer-none}
 use Rattle.event.proofs.Filling.{fill-nothing}
@@ -71,26 +71,6 @@ module _ (told u : ℕ) (pending : ℕ → Bool) (busy : List ℕ) (round : ℕ)
   unfolding attend-below
   attended zero l = record { below = λ k m. absurd (omega arith); after = λ k m. refl; eight = due-long }
   attended (suc n) l = attended-next n (omega arith) _ (attended n (omega arith))
-
--- the node that is served
-module _ (due : List ℕ) (u slots : ℕ) where
-  pub data Served (n r : ℕ) : Type 0 where
-    no-node : r ≡ slots → ((k : ℕ) → k < n → getD due k 0 ≡ u → ⊥) → Served n r
-    a-node : r < n → getD due r 0 ≡ u → Served n r
-
-  pub served-one : (n : ℕ) → Served n (served-by due u slots n)
-  unfolding served-by
-  served-one zero = no-node refl (λ k l. absurd (omega arith))
-  served-one (suc n) = at (eqb (getD due n 0) u) refl (served-one n)
-    where
-      at : (b : Bool) → eqb (getD due n 0) u ≡ b → Served n (served-by due u slots n) → Served (suc n) (if b then n else served-by due u slots n)
-      at true e s = a-node (omega arith) (eqb-true _ _ e)
-      at false e (a-node l q) = a-node (omega arith) q
-      at false e (no-node q h) = no-node q (λ k l. by k (below-suc k n l))
-        where
-          by : (k : ℕ) → (k < n) ⊎ (k ≡ n) → getD due k 0 ≡ u → ⊥
-          by k (inl l) z = h k l z
-          by k (inr w) z = eqb-false _ _ e (ap (λ (j : ℕ). getD due j 0) (sym w) ∙ z)
 
 -- the next event, where the kept array says when the slots take an item
 module _ (pending : ℕ → Bool) (round : ℕ) (offset : List ℕ) (u come : ℕ) (due : List ℕ) where

@@ -17,6 +17,7 @@ use Rattle.readiness.specs.Reading.{came-by, part, edges-into}
 use Rattle.timetable.specs.Bus.{beginning-at}
 use Rattle.starting.specs.Starting.{Ends, starts-by}
 use Rattle.starting.specs.Quiet.{Idle, Quiet}
+use Rattle.starting.specs.News.{Soonest}
 use Rattle.starting.proofs.Quiet.{Alike, idle-stays, starts-idle}
 use Rattle.starting.proofs.Ends.{set-there}
 use Rattle.packing.proofs.Left.{placed-row}
@@ -24,15 +25,17 @@ use Rattle.board.specs.declared.Board.{Board}
 use Rattle.packing.specs.Packing.{stir-by}
 use Rattle.serving.specs.Serving.{no-event, Bus, bus, fill-by, due-from, attend-below, attend-by, Waiting, Roomy, Attended-all}
 use Rattle.event.specs.Course.{last-event, Moment, moment, begins-by, heard-by, begun-by, come-by, sooner-by, next-slot, event-by, hears, begins-with, serves, waiting, messages, notes, next, Fits}
-use Rattle.event.specs.Kept.{served-by, come-now, event-now, Past, past, under-way, Kept, Queued, Begins}
-use Rattle.event.proofs.Ahead.{come-after, come-flight, come-busy, come-most, come-later, come-new, event-come, event-slot, event-after}
+use Rattle.event.specs.Kept.{served-by, event-now, Past, past, under-way, Kept, Queued, Begins}
+use Rattle.event.specs.Ending.{Ending, ends-now, changes-at}
+use Rattle.event.proofs.Ahead.{sooner-least, come-after, come-flight, come-busy, come-most, come-new, event-come, event-slot, event-after, First, found, missing, first-below}
+use Rattle.event.proofs.Endings.{unchanged, ends-right, ending-next}
 use Rattle.event.proofs.Beginnings.{beginning-same, past-later, past-ends}
 use Rattle.event.proofs.Filling.{Filled, left, broadcast, message, fill-row, fill-told, fill-flight, fill-long}
 use Rattle.event.proofs.Begun.{Started, as-before, starting, Begun, begun}
 use Rattle.event.proofs.Pending.{came-same, came-grown, Same, pending-same, waiting-same}
 use Rattle.event.proofs.Stirring.{stir-either, stir-long, stir-told, stir-reaches}
 use Rattle.event.proofs.Loops.{beginning-from, next-parts}
-use Rattle.event.proofs.Attending.{Attended, attended, Served, no-node, a-node, served-one, event-same, Chosen, nobody, somebody, serves-chosen}
+use Rattle.event.proofs.Attending.{Attended, attended, event-same, Chosen, nobody, somebody, serves-chosen}
 
 -- a choice by whether a node is the number of slots
 module _ {A : Type 0} (n slots : ℕ) {x : A} (y z : A) where
@@ -68,7 +71,6 @@ module _ (b : Board) (f : Fits b) (unmet : List ℕ) where
         from-one = l;
         told-apart = s .told-apart;
         come-from = omega arith;
-        come-ahead = λ d. absurd (d refl);
         end-over = λ n j q. refl;
         stirred-over = λ n j q. refl;
         flight-past = past o;
@@ -131,11 +133,12 @@ module _ (b : Board) (f : Fits b) (unmet : List ℕ) where
           }
 
     -- the messages that wait, once the nodes are looked at
-    pub queued-now : (wait waitend wait₁ waitend₁ : List ℕ) → Queued b unmet m wait waitend → Attended-all (m .told) (m .u) (m .come) (b .slots) (m .busy) (b .queuefirst) (messages b unmet (m .comes) (m .u)) wait waitend wait₁ waitend₁ →
+    pub queued-now : (ends : ℕ) → Ending (b .slots) (m .u) (m .busy) ends → (look : ℕ) → look ≡ changes-at (m .told) ends (m .u) →
+        (wait waitend wait₁ waitend₁ : List ℕ) → Queued b unmet m wait waitend → Attended-all (m .told) (m .u) look (b .slots) (m .busy) (b .queuefirst) (messages b unmet (m .comes) (m .u)) wait waitend wait₁ waitend₁ →
         Roomy wait₁ waitend₁ × ((i : ℕ) → i < b .slots → Waiting (b .queuefirst) wait₁ waitend₁ i (messages b unmet (m .comes) (m .u) i))
-    queued-now wait waitend wait₁ waitend₁ h a = at (two (eqb (m .come) (m .u)))
+    queued-now ends ending look look-is wait waitend wait₁ waitend₁ h a = at (two (eqb look (m .u)))
       where
-        at : (eqb (m .come) (m .u) ≡ true) ⊎ (eqb (m .come) (m .u) ≡ false) → Roomy wait₁ waitend₁ × ((i : ℕ) → i < b .slots → Waiting (b .queuefirst) wait₁ waitend₁ i (messages b unmet (m .comes) (m .u) i))
+        at : (eqb look (m .u) ≡ true) ⊎ (eqb look (m .u) ≡ false) → Roomy wait₁ waitend₁ × ((i : ℕ) → i < b .slots → Waiting (b .queuefirst) wait₁ waitend₁ i (messages b unmet (m .comes) (m .u) i))
         at (inl e) = let z = a .all (eqb-true _ _ e) in (z .roomy, λ i l. by i l (two (eqb (m .told) (m .u) || eqb (getD (m .busy) i 0) (m .u))))
           where
             by : (i : ℕ) → i < b .slots → ((eqb (m .told) (m .u) || eqb (getD (m .busy) i 0) (m .u)) ≡ true) ⊎ ((eqb (m .told) (m .u) || eqb (getD (m .busy) i 0) (m .u)) ≡ false) →
@@ -145,17 +148,18 @@ module _ (b : Board) (f : Fits b) (unmet : List ℕ) where
                 let n = neither (eqb (m .told) (m .u)) (eqb (getD (m .busy) i 0) (m .u)) c in
                 a .all (eqb-true _ _ e) .kept i l (inr c) (messages b unmet (m .comes) (m .u) i) (h .waits i l (eqb-false _ _ (n .0)) (eqb-false _ _ (n .1)))
         at (inr e) =
-            let d : m .come ≡ m .u → ⊥ = eqb-false _ _ e in
-            let q = a .none d in (
+            let d = unchanged (b .slots) (m .u) (m .busy) ends ending (m .told) (λ q. eqb-false _ _ e (look-is ∙ q)) in
+            let q = a .none (eqb-false _ _ e) in (
               subst (λ (xs : List ℕ). Roomy xs waitend₁) (sym (q .0)) (subst (Roomy wait) (sym (q .1)) (h .roomy)),
               λ i l.
                   subst (λ (xs : List ℕ). Waiting (b .queuefirst) xs waitend₁ i (messages b unmet (m .comes) (m .u) i)) (sym (q .0))
                   (subst (λ (xs : List ℕ). Waiting (b .queuefirst) wait xs i (messages b unmet (m .comes) (m .u) i)) (sym (q .1))
-                  (h .waits i l (λ z. d (k .stirred-over i l (told-now i l z))) (λ z. d (k .end-over i l z)))),
+                  (h .waits i l (d .0) (d .1 i l))),
             )
 
     -- what is looked at as the event begins
-    module _ (due₁ : List ℕ) (attend-is : due₁ ≡ attend-by (m .told) (m .u) (waiting b unmet (m .comes) (m .u)) (m .busy) (b .round) (b .offset) (m .come) (b .slots) due) where
+    module _ (ends : ℕ) (ending : Ending (b .slots) (m .u) (m .busy) ends) (look : ℕ) (look-is : look ≡ changes-at (m .told) ends (m .u))
+        (due₁ : List ℕ) (attend-is : due₁ ≡ attend-by (m .told) (m .u) (waiting b unmet (m .comes) (m .u)) (m .busy) (b .round) (b .offset) look (b .slots) due) where
       abbrev due-now : ℕ → ℕ
       due-now i = due-from (b .round) (getD (b .offset) i 0) (m .u - 1) (pend i)
 
@@ -166,7 +170,7 @@ module _ (b : Board) (f : Fits b) (unmet : List ℕ) where
 
       looked : Looked due₁
       unfolding attend-by
-      looked = subst Looked (sym attend-is) (at (two (eqb (m .come) (m .u))))
+      looked = subst Looked (sym attend-is) (at (two (eqb look (m .u))))
         where
           a : Attended (m .told) (m .u) pend (m .busy) (b .round) (b .offset) due (k .due-long) (b .slots) (attend-below (m .told) (m .u) pend (m .busy) (b .round) (b .offset) (b .slots) due)
           a = attended (m .told) (m .u) pend (m .busy) (b .round) (b .offset) due (k .due-long) (b .slots) (f .few-slots)
@@ -177,8 +181,8 @@ module _ (b : Board) (f : Fits b) (unmet : List ℕ) where
               let n = neither (eqb (m .told) (m .u)) (eqb (getD (m .busy) i 0) (m .u)) e in
               k .dues i l (eqb-false _ _ (n .0)) (eqb-false _ _ (n .1))
 
-          at : (eqb (m .come) (m .u) ≡ true) ⊎ (eqb (m .come) (m .u) ≡ false) →
-              Looked (if eqb (m .come) (m .u) then attend-below (m .told) (m .u) pend (m .busy) (b .round) (b .offset) (b .slots) due else due)
+          at : (eqb look (m .u) ≡ true) ⊎ (eqb look (m .u) ≡ false) →
+              Looked (if eqb look (m .u) then attend-below (m .told) (m .u) pend (m .busy) (b .round) (b .offset) (b .slots) due else due)
           at (inl e) =
               subst (λ (c : Bool). Looked (if c then attend-below (m .told) (m .u) pend (m .busy) (b .round) (b .offset) (b .slots) due else due)) (sym e)
               (record {
@@ -187,16 +191,16 @@ module _ (b : Board) (f : Fits b) (unmet : List ℕ) where
                 eight = a .eight;
               })
           at (inr e) =
-              let d : m .come ≡ m .u → ⊥ = eqb-false _ _ e in
+              let d = unchanged (b .slots) (m .u) (m .busy) ends ending (m .told) (λ q. eqb-false _ _ e (look-is ∙ q)) in
               subst (λ (c : Bool). Looked (if c then attend-below (m .told) (m .u) pend (m .busy) (b .round) (b .offset) (b .slots) due else due)) (sym e)
               (record {
-                right = λ i l. k .dues i l (λ q. d (k .stirred-over i l (told-now i l q))) (λ q. d (k .end-over i l q));
+                right = λ i l. k .dues i l (d .0) (d .1 i l);
                 beyond = λ i l. refl;
                 eight = k .due-long;
               })
 
       -- the node that is served
-      module _ (low : m .u ≤ last-event) (n : ℕ) (served-is : n ≡ served-by due₁ (m .u) (b .slots) 8) where
+      module _ (low : m .u ≤ last-event) (n : ℕ) (served-is : n ≡ served-by due₁ (m .u) (b .slots)) where
         due-slot : (i : ℕ) → i < b .slots → getD due₁ i 0 ≡ m .u → begins-by (b .round) (b .offset) (m .u - 1) i ≡ true
         unfolding due-from begins-by
         due-slot i l q = at (pend i) (sym (looked .right i l) ∙ q)
@@ -217,15 +221,12 @@ module _ (b : Board) (f : Fits b) (unmet : List ℕ) where
           one-due : n < b .slots → getD due₁ n 0 ≡ m .u → One
 
         one : One
-        one = at (subst (Served due₁ (m .u) (b .slots) 8) (sym served-is) (served-one due₁ (m .u) (b .slots) 8))
+        unfolding served-by
+        one = at (first-below (b .slots) (λ i. eqb (getD due₁ i 0) (m .u)))
           where
-            at : Served due₁ (m .u) (b .slots) 8 n → One
-            at (no-node q h) = none-due q (λ i l. h i (omega (arith, f .few-slots)))
-            at (a-node l q) = by (two (leb (b .slots) n))
-              where
-                by : (leb (b .slots) n ≡ true) ⊎ (leb (b .slots) n ≡ false) → One
-                by (inr e) = one-due (leb-false _ _ e) q
-                by (inl e) = let o : b .slots ≤ n = leb-true _ _ e in absurd (omega (arith, q, looked .beyond n o, k .dues-past n o l, low))
+            at : First (b .slots) (λ i. eqb (getD due₁ i 0) (m .u)) → One
+            at (missing h e) = none-due (served-is ∙ e) (λ i l. eqb-false _ _ (h i l))
+            at (found i l t e) = let q : n ≡ i = served-is ∙ e in one-due (omega (arith, q)) (ap (λ (x : ℕ). getD due₁ x 0) q ∙ eqb-true _ _ t)
 
         pub node-low : n ≤ b .slots
         node-low = at one
@@ -672,22 +673,13 @@ module _ (b : Board) (f : Fits b) (unmet : List ℕ) where
                       due-other i d ∙ looked .right i l ∙ due-on i l d (pend i) refl ∙ ap (due-from (b .round) (getD (b .offset) i 0) (m .u)) (sym (pend-comes i l d))
 
               -- the next event
-              module _ (come u : ℕ) (come-is : come ≡ come-now (m .come) flight busy (m .u) (b .slots)) (u-is : u ≡ event-now due₂ come 8) where
-                pub come-right : come ≡ come-by flight busy (m .u) (b .slots)
-                unfolding come-now
-                come-right = come-is ∙ at (eqb (m .come) (m .u)) refl begun-is
-                  where
-                    before-or-same : (flight ≡ m .flight) ⊎ ((n < b .slots) × (flight ≡ end)) → (m .flight ≤ m .u) ⊎ (flight ≡ m .flight)
-                    before-or-same (inl q) = inr q
-                    before-or-same (inr q) = inl (landed (q .0))
+              module _ (first : ℕ) (soonest : length (m .busy) ≡ 8 → Soonest (b .slots) (m .u) (m .busy) busy first) (ends₁ come u : ℕ)
+                  (ends-is : ends₁ ≡ ends-now ends first busy (m .u) (b .slots)) (come-is : come ≡ sooner-by ends₁ flight (m .u)) (u-is : u ≡ event-now due₂ come 8) where
+                ends-next : ends₁ ≡ come-by 0 busy (m .u) (b .slots)
+                ends-next = ends-is ∙ ends-right (b .slots) (m .u) (m .busy) ends ending busy first (g .ends) (soonest (k .busy-long))
 
-                    at : (c : Bool) → eqb (m .come) (m .u) ≡ c → at-last ≡ (if c then all-started else at-first) →
-                        (if c then come-by flight busy (m .u) (b .slots) else sooner-by (m .come) flight (m .u)) ≡ come-by flight busy (m .u) (b .slots)
-                    at true e q = refl
-                    at false e q =
-                        ap (λ (x : ℕ). sooner-by x flight (m .u)) (k .come-ahead (eqb-false _ _ e))
-                        ∙ come-new (m .flight) flight (m .busy) (m .u) (b .slots) (before-or-same flight-either)
-                        ∙ ap (λ (s : Ends). come-by flight (s .busy) (m .u) (b .slots)) (sym q)
+                pub come-right : come ≡ come-by flight busy (m .u) (b .slots)
+                come-right = come-is ∙ ap (λ (x : ℕ). sooner-by x flight (m .u)) ends-next ∙ come-new 0 flight busy (m .u) (b .slots) (inl (omega arith))
 
                 pub event-is : u ≡ event-by (waiting b unmet comes (m .u)) (b .round) (b .offset) (m .u) come (b .slots)
                 event-is =
@@ -865,7 +857,6 @@ module _ (b : Board) (f : Fits b) (unmet : List ℕ) where
                       from-one = omega (arith, later);
                       told-apart = k .told-apart;
                       come-from = not-after;
-                      come-ahead = λ d. come-right ∙ sym (come-later flight busy (b .slots) (m .u) u (omega (arith, later)) (omega (arith, come-right, not-after, d)));
                       end-over = λ i l q. over-at (subst (λ (x : ℕ). (getD busy i 0 ≤ m .u) ⊎ (x ≤ getD busy i 0)) (sym come-right) (come-busy flight busy (m .u) (b .slots) i l)) q;
                       stirred-over = λ i l q. over-at (late (stirred-carried i l) (subst (λ (x : ℕ). (flight ≤ m .u) ⊎ (x ≤ flight)) (sym come-right) (come-flight flight busy (m .u) (b .slots)))) q;
                       flight-past = flight-then flight-either;
@@ -930,3 +921,7 @@ module _ (b : Board) (f : Fits b) (unmet : List ℕ) where
                 pub event-on : (noted : List ℕ) → noted ≡ notes b unmet m →
                     (_≡_ {A = Moment} (moment u come flight heard run busy comes place passed noted) (next b unmet m)) × Kept b unmet (moment u come flight heard run busy comes place passed noted) stirred₁ due₂
                 event-on noted noted-is = (next-parts b unmet m noted-is run-is busy-is rows-is serves-is come-right event-is, kept-next place passed noted)
+
+                -- and so does the next end of a process
+                pub ending-on : Ending (b .slots) u busy ends₁
+                ending-on = ending-next (b .slots) (m .u) u busy ends₁ ends-next later (omega (arith, not-after, come-is, sooner-least ends₁ flight (m .u)))

@@ -12,24 +12,27 @@ use borrow.Author.Tests.{eqb-true, eqb-false, ne-eqb}
 use Rattle.lists.specs.Lists.{if_then_else_}
 use Rattle.lists.proofs.Tests.{two}
 use Rattle.readiness.specs.Reading.{part}
+use Rattle.starting.specs.News.{Soonest}
 use Rattle.packing.specs.Packing.{stir-by}
 use Rattle.board.specs.declared.Board.{Board}
 use Rattle.serving.specs.Serving.{Bus, bus, taken-in, fill-with, left-with, stir-with, fill-by, due-from, attend-by, Waiting, Roomy, Attended-all, Served}
-use Rattle.event.specs.Course.{last-event, Moment, moment, hears, begins-with, waiting, messages, notes, next, Fits}
-use Rattle.event.specs.Kept.{served-by, come-now, event-now, Kept, Queued}
-use Rattle.event.proofs.Keeping.{queued-now, node-low, rows-room, wait-rows, rows-arrived, told-arrived, wait-comes, queued-next, event-on}
+use Rattle.event.specs.Course.{last-event, Moment, moment, sooner-by, hears, begins-with, waiting, messages, notes, next, Fits}
+use Rattle.event.specs.Kept.{served-by, event-now, Kept, Queued}
+use Rattle.event.specs.Ending.{Ending, ends-now, changes-at}
+use Rattle.event.proofs.Keeping.{queued-now, node-low, rows-room, wait-rows, rows-arrived, told-arrived, wait-comes, queued-next, event-on, ending-on}
 use Rattle.event.proofs.Queue.{chosen-same, fill-same, short-same, left-same, stir-same, message-small, message-remote, served-roomy, served-own, served-other}
 
-module _ (b : Board) (f : Fits b) (unmet : List ℕ) (m : Moment) (stirred due : List ℕ) (k : Kept b unmet m stirred due) (wait waitend : List ℕ) (queued : Queued b unmet m wait waitend)
-    (wait₁ waitend₁ : List ℕ) (attended : Attended-all (m .told) (m .u) (m .come) (b .slots) (m .busy) (b .queuefirst) (messages b unmet (m .comes) (m .u)) wait waitend wait₁ waitend₁)
-    (due₁ : List ℕ) (attend-is : due₁ ≡ attend-by (m .told) (m .u) (waiting b unmet (m .comes) (m .u)) (m .busy) (b .round) (b .offset) (m .come) (b .slots) due)
-    (low : m .u ≤ last-event) (n : ℕ) (served-is : n ≡ served-by due₁ (m .u) (b .slots) 8) where
+module _ (b : Board) (f : Fits b) (unmet : List ℕ) (m : Moment) (stirred due : List ℕ) (k : Kept b unmet m stirred due)
+    (ends : ℕ) (ending : Ending (b .slots) (m .u) (m .busy) ends) (look : ℕ) (look-is : look ≡ changes-at (m .told) ends (m .u)) (wait waitend : List ℕ) (queued : Queued b unmet m wait waitend)
+    (wait₁ waitend₁ : List ℕ) (attended : Attended-all (m .told) (m .u) look (b .slots) (m .busy) (b .queuefirst) (messages b unmet (m .comes) (m .u)) wait waitend wait₁ waitend₁)
+    (due₁ : List ℕ) (attend-is : due₁ ≡ attend-by (m .told) (m .u) (waiting b unmet (m .comes) (m .u)) (m .busy) (b .round) (b .offset) look (b .slots) due)
+    (low : m .u ≤ last-event) (n : ℕ) (served-is : n ≡ served-by due₁ (m .u) (b .slots)) where
   -- what waits once the nodes are looked at
   pub roomy-now : Roomy wait₁ waitend₁
-  roomy-now = queued-now b f unmet m stirred due k wait waitend wait₁ waitend₁ queued attended .0
+  roomy-now = queued-now b f unmet m stirred due k ends ending look look-is wait waitend wait₁ waitend₁ queued attended .0
 
   pub waits-now : (i : ℕ) → i < b .slots → Waiting (b .queuefirst) wait₁ waitend₁ i (messages b unmet (m .comes) (m .u) i)
-  waits-now = queued-now b f unmet m stirred due k wait waitend wait₁ waitend₁ queued attended .1
+  waits-now = queued-now b f unmet m stirred due k ends ending look look-is wait waitend wait₁ waitend₁ queued attended .1
 
   abbrev ws : List ℕ
   ws = part wait₁ (getD (b .queuefirst) n 0) (getD waitend₁ n 0)
@@ -38,17 +41,17 @@ module _ (b : Board) (f : Fits b) (unmet : List ℕ) (m : Moment) (stirred due :
   remote-now o e w = message-remote b f unmet (m .comes) (m .u) n o e (subst (λ (xs : List ℕ). In e xs) (waits-now n o .holds) w)
 
   node-in : n ≤ b .slots
-  node-in = node-low b f unmet m stirred due k due₁ attend-is low n served-is
+  node-in = node-low b f unmet m stirred due k ends ending look look-is due₁ attend-is low n served-is
 
   module _ (run : List ℕ) (run-is : run ≡ hears b unmet m) (busy rows : List ℕ) (busy-is : busy ≡ begins-with b unmet run m .busy) (rows-is : rows ≡ begins-with b unmet run m .comes) where
     abbrev before : Bus
     before = bus (m .flight) (m .told) rows (m .place) (m .passed)
 
     long : b .tell + b .conditions ≤ length rows
-    long = rows-room b f unmet m stirred due k due₁ attend-is low n served-is run run-is busy rows busy-is rows-is
+    long = rows-room b f unmet m stirred due k ends ending look look-is due₁ attend-is low n served-is run run-is busy rows busy-is rows-is
 
     ws-is : n < b .slots → ws ≡ messages b unmet rows (m .u) n
-    ws-is o = waits-now n o .holds ∙ sym (wait-rows b f unmet m stirred due k due₁ attend-is low n served-is run run-is busy rows busy-is rows-is n)
+    ws-is o = waits-now n o .holds ∙ sym (wait-rows b f unmet m stirred due k ends ending look look-is due₁ attend-is low n served-is run run-is busy rows busy-is rows-is n)
 
     module _ (flight heard : ℕ) (comes place passed : List ℕ)
         (list-is : bus flight heard comes place passed ≡ (if eqb n (b .slots) then before else fill-with (b .processes) (b .tell) (b .conditions) (b .decider) (b .node) (b .bytes) (b .lasts) (b .rooms) n (m .u) ws before)) where
@@ -74,7 +77,8 @@ module _ (b : Board) (f : Fits b) (unmet : List ℕ) (m : Moment) (stirred due :
           (stir-list : stirred₁ ≡ (if eqb n (b .slots) then stirred else stir-with (b .processes) (b .tell) (b .conditions) (b .decider) (b .node) (b .bytes) (b .lasts) (b .rooms) n (m .u) (b .remote) (b .slots) ws rows (m .place) stirred))
           (due-list : due₂ ≡ (if eqb n (b .slots) then due₁ else set due₁ n (due-from (b .round) (getD (b .offset) n 0) (m .u) (taken-in (b .processes) (b .tell) (b .conditions) (b .decider) (b .node) (b .bytes) (b .lasts) (b .rooms) n (m .u) ws rows (m .place) .short))))
           (served : Served (b .slots) n (b .queuefirst) left wait₁ waitend₁ wait₂ waitend₂)
-          (come u : ℕ) (come-is : come ≡ come-now (m .come) flight busy (m .u) (b .slots)) (u-is : u ≡ event-now due₂ come 8) (noted : List ℕ) (noted-is : noted ≡ notes b unmet m) where
+          (first : ℕ) (soonest : length (m .busy) ≡ 8 → Soonest (b .slots) (m .u) (m .busy) busy first) (ends₁ come u : ℕ)
+          (ends-is : ends₁ ≡ ends-now ends first busy (m .u) (b .slots)) (come-is : come ≡ sooner-by ends₁ flight (m .u)) (u-is : u ≡ event-now due₂ come 8) (noted : List ℕ) (noted-is : noted ≡ notes b unmet m) where
         roomy-then : Roomy wait₂ waitend₂
         roomy-then = served-roomy b f n left wait₁ waitend₁ wait₂ waitend₂ node-in served roomy-now (λ o x w. message-small b f unmet comes (m .u) n o x (subst (λ (xs : List ℕ). In x xs) (left-messages o) w))
 
@@ -84,7 +88,7 @@ module _ (b : Board) (f : Fits b) (unmet : List ℕ) (m : Moment) (stirred due :
             ∙ chosen-same n (b .slots) stirred (stir-with (b .processes) (b .tell) (b .conditions) (b .decider) (b .node) (b .bytes) (b .lasts) (b .rooms) n (m .u) (b .remote) (b .slots) ws rows (m .place) stirred) _ node-in
             (λ o.
             stir-same b f unmet n (m .u) (m .flight) (m .told) rows (m .place) (m .passed) o long ws (ws-is o) (bus flight heard comes place passed) (left-is o) stirred
-            (rows-arrived b f unmet m stirred due k due₁ attend-is low n served-is run run-is busy rows busy-is rows-is o) (told-arrived b f unmet m stirred due k due₁ attend-is low n served-is run run-is busy rows busy-is rows-is o))
+            (rows-arrived b f unmet m stirred due k ends ending look look-is due₁ attend-is low n served-is run run-is busy rows busy-is rows-is o) (told-arrived b f unmet m stirred due k ends ending look look-is due₁ attend-is low n served-is run run-is busy rows busy-is rows-is o))
 
         due-is : due₂ ≡ (if eqb n (b .slots) then due₁ else set due₁ n (due-from (b .round) (getD (b .offset) n 0) (m .u) (waiting b unmet comes (m .u) n)))
         due-is =
@@ -105,12 +109,13 @@ module _ (b : Board) (f : Fits b) (unmet : List ℕ) (m : Moment) (stirred due :
                 (subst (Waiting (b .queuefirst) wait₂ waitend₂ n) (left-messages o) (served-own b f n left wait₁ waitend₁ wait₂ waitend₂ node-in served roomy-now o))
             at (inr e) =
                 let d : i ≡ n → ⊥ = eqb-false i n e in
-                subst (Waiting (b .queuefirst) wait₂ waitend₂ i) (sym (wait-comes b f unmet m stirred due k due₁ attend-is low n served-is run run-is busy rows busy-is rows-is flight heard comes place passed bus-is i l d))
+                subst (Waiting (b .queuefirst) wait₂ waitend₂ i) (sym (wait-comes b f unmet m stirred due k ends ending look look-is due₁ attend-is low n served-is run run-is busy rows busy-is rows-is flight heard comes place passed bus-is i l d))
                 (served-other b f n left wait₁ waitend₁ wait₂ waitend₂ node-in served i l d (messages b unmet (m .comes) (m .u) i) (waits-now i l))
 
         pub event-whole :
             (_≡_ {A = Moment} (moment u come flight heard run busy comes place passed noted) (next b unmet m))
-            × (Kept b unmet (moment u come flight heard run busy comes place passed noted) stirred₁ due₂ × Queued b unmet (moment u come flight heard run busy comes place passed noted) wait₂ waitend₂)
+            × (Kept b unmet (moment u come flight heard run busy comes place passed noted) stirred₁ due₂ × (Ending (b .slots) u busy ends₁ × Queued b unmet (moment u come flight heard run busy comes place passed noted) wait₂ waitend₂))
         event-whole =
-            let on = event-on b f unmet m stirred due k due₁ attend-is low n served-is run run-is busy rows busy-is rows-is flight heard comes place passed bus-is stirred₁ due₂ stirred-is due-is come u come-is u-is noted noted-is in
-            (on .0, (on .1, queued-next b f unmet m stirred due k due₁ attend-is low n served-is run run-is busy rows busy-is rows-is flight heard comes place passed bus-is stirred₁ due₂ stirred-is due-is come u come-is u-is place passed noted wait₂ waitend₂ roomy-then waits-then))
+            let on = event-on b f unmet m stirred due k ends ending look look-is due₁ attend-is low n served-is run run-is busy rows busy-is rows-is flight heard comes place passed bus-is stirred₁ due₂ stirred-is due-is first soonest ends₁ come u ends-is come-is u-is noted noted-is in
+            let after = ending-on b f unmet m stirred due k ends ending look look-is due₁ attend-is low n served-is run run-is busy rows busy-is rows-is flight heard comes place passed bus-is stirred₁ due₂ stirred-is due-is first soonest ends₁ come u ends-is come-is u-is in
+            (on .0, (on .1, (after, queued-next b f unmet m stirred due k ends ending look look-is due₁ attend-is low n served-is run run-is busy rows busy-is rows-is flight heard comes place passed bus-is stirred₁ due₂ stirred-is due-is first soonest ends₁ come u ends-is come-is u-is place passed noted wait₂ waitend₂ roomy-then waits-then)))

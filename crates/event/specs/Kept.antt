@@ -8,20 +8,15 @@ use mathlib.Core.Bool.{true}
 use mathlib.Core.List.{List}
 use lib.Dec.{eqb}
 use lib.ListN.{length, getD}
-use Rattle.lists.specs.Lists.{if_then_else_}
+use Rattle.lists.specs.Lists.{below}
 use Rattle.starting.specs.Quiet.{Idle}
 use Rattle.board.specs.declared.Board.{Board}
 use Rattle.serving.specs.Serving.{no-event, due-from, Waiting, Roomy}
-use Rattle.event.specs.Course.{Moment, begins-by, sooner-by, come-by, waiting, messages}
+use Rattle.event.specs.Course.{Moment, first-or, begins-by, waiting, messages}
 
--- the node below n whose slot takes an item at the clock, or the number of slots
-unfoldable pub served-by : List ℕ → ℕ → ℕ → ℕ → ℕ
-served-by due u slots zero = slots
-served-by due u slots (suc n) = if eqb (getD due n 0) u then n else served-by due u slots n
-
--- the next clock at which a row is over: worked out again where one is over at the clock u; where only a slot began, at most its end is sooner
-unfoldable pub come-now : ℕ → ℕ → List ℕ → ℕ → ℕ → ℕ
-come-now come flight busy u slots = if eqb come u then come-by flight busy u slots else sooner-by come flight u
+-- the first node whose slot takes an item at the clock, or the number of slots
+unfoldable pub served-by : List ℕ → ℕ → ℕ → ℕ
+served-by due u slots = first-or slots (λ n. eqb (getD due n 0) u) (below slots)
 
 -- the next event: `come`, or when the slot of a node below n takes an item
 unfoldable pub event-now : List ℕ → ℕ → ℕ → ℕ
@@ -40,7 +35,6 @@ pub record Kept (b : Board) (unmet : List ℕ) (m : Moment) (stirred due : List 
   pub told-apart : (e : ℕ) → (getD unmet e 0 ≡ 0 → ⊥) → (k : ℕ) × (k < b .conditions) × (getD (b .cue) e 0 ≡ b .tell + k)
   -- no row is over between the event before and this one: `come` is not before it, and where a process ends or an item arrives at it, `come` is the event
   pub come-from : m .u ≤ m .come
-  pub come-ahead : (m .come ≡ m .u → ⊥) → m .come ≡ come-by (m .flight) (m .busy) (m .u) (b .slots)
   pub end-over : (n : ℕ) → n < b .slots → getD (m .busy) n 0 ≡ m .u → m .come ≡ m .u
   pub stirred-over : (n : ℕ) → n < b .slots → getD stirred n 0 ≡ m .u → m .come ≡ m .u
   -- what is still to arrive arrives with the slot that was used last: a broadcast at `told`, and at each node what stirs it

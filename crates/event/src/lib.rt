@@ -5,6 +5,7 @@ use serving::attend;
 use serving::serve;
 use starting::starts;
 ghost use mathlib.Core.Path.{_≡_};
+ghost use mathlib.Core.Bool.{false};
 ghost use Prim.Native.Nat.{ℕ, _+_, _*_, _<_, _≤_};
 ghost use lib.Dec.{eqb};
 ghost use lib.ListN.{length, getD};
@@ -12,8 +13,10 @@ ghost use lib.Seq.{sets};
 ghost use Rattle.lists.specs.Lists.{if_then_else_};
 ghost use Rattle.readiness.specs.Reading.{Within};
 ghost use Rattle.starting.specs.Quiet.{Quiet};
+ghost use Rattle.starting.specs.News.{Soonest};
 ghost use Rattle.event.specs.Course.{moment, notes-below, note-by, heard-by, begun-by, sooner-by, come-by, next, Fits, board-of};
-ghost use Rattle.event.specs.Kept.{served-by, come-now, event-now, Kept, Queued};
+ghost use Rattle.event.specs.Kept.{served-by, event-now, Kept, Queued};
+ghost use Rattle.event.specs.Ending.{Ending, ends-now, changes-at};
 
 // Stores the counts of the nodes, from place `at` on.
 fn put_counts(passed: &[u32; 8], at: usize, noted: &mut [u32; 48])
@@ -114,7 +117,8 @@ fn heard<'a>(
     }
 }
 
-// Each free node starts, where a row is over at this clock. Where none is, no node can start. A node for which nothing is new has nothing to start.
+// Each free node starts, where a row is over at this clock. Where none is, no node can start. A node for which nothing is new has nothing to start. The answer is
+// the end of the process that ends first of those that start, or 2,000,000,000.
 fn begin<'a>(
     come: u32,
     processes: usize,
@@ -134,13 +138,14 @@ fn begin<'a>(
     stirred: &'a [u32; 8],
     busy: &mut [u32; 8],
     comes: &mut [u32; 198],
-)
+) -> u32
     requires { ⌜ (slots ≤ 8) × (processes ≤ 64) × ((k : ℕ) → getD (now intofirst) k 0 ≤ 128) × Within (now from) (now cue) (now into) × ((k : ℕ) → getD (now turnfirst) k 0 ≤ 128) × ((j : ℕ) → getD (now turn) j 0 < 64) × (u ≤ 1000000000) × ((i : ℕ) → getD (now ticks) i 0 ≤ 100000) × Quiet processes slots (now remote) (now from) (now cue) (now unmet) (now run) (now several) (now intofirst) (now into) (now turnfirst) (now turn) (now ticks) u (now stirred) (now busy) (now comes) ⌝ }
     ensures ends { λ _. ⌜ now (busy .exit) ≡ begun-by come processes (now (remote .entry)) (now (from .entry)) (now (cue .entry)) (now (unmet .entry)) (now (run .entry)) (now (several .entry)) (now (intofirst .entry)) (now (into .entry)) u (now (turnfirst .entry)) (now (turn .entry)) (now (ticks .entry)) slots (record { busy = now (busy .entry); comes = now (comes .entry) }) .busy ⌝ }
     ensures rows { λ _. ⌜ now (comes .exit) ≡ begun-by come processes (now (remote .entry)) (now (from .entry)) (now (cue .entry)) (now (unmet .entry)) (now (run .entry)) (now (several .entry)) (now (intofirst .entry)) (now (into .entry)) u (now (turnfirst .entry)) (now (turn .entry)) (now (ticks .entry)) slots (record { busy = now (busy .entry); comes = now (comes .entry) }) .comes ⌝ }
+    ensures soonest { λ r. ⌜ (length (now (busy .entry)) ≡ 8 → Soonest slots u (now (busy .entry)) (now (busy .exit)) r) ⌝ }
 {
     if come == u {
-        starts(
+        return starts(
             processes,
             slots,
             remote,
@@ -160,21 +165,48 @@ fn begin<'a>(
             comes,
         );
     }
+    2000000000
 }
 
-// The node whose slot takes an item at clock u, or the number of slots.
-fn served(due: &[u32; 8], slots: usize, u: u32) -> usize
-    ensures { λ r. ⌜ r ≡ served-by (now (due .entry)) u slots 8 ⌝ }
+// Whether the slot of a node takes an item at clock u.
+fn any_due(due: &[u32; 8], u: u32) -> bool
+    ensures { λ r. ⌜ (r ≡ false → (n : ℕ) → n < 8 → getD (now (due .entry)) n 0 ≡ u → ⊥) ⌝ }
 {
-    let mut found = slots;
+    let mut found = false;
     let mut n: usize = 0;
     while n < 8 {
         if due[n] == u {
-            found = n;
+            found = true;
         }
         n += 1;
     }
     found
+}
+
+// The first node whose slot takes an item at clock u, or the number of slots.
+fn which_due(due: &[u32; 8], slots: usize, u: u32) -> usize
+    requires { ⌜ slots ≤ 8 ⌝ }
+    ensures { λ r. ⌜ r ≡ served-by (now (due .entry)) u slots ⌝ }
+{
+    let mut n: usize = 0;
+    while n < slots {
+        if due[n] == u {
+            return n;
+        }
+        n += 1;
+    }
+    slots
+}
+
+// The node whose slot takes an item at clock u, or the number of slots.
+fn served(due: &[u32; 8], slots: usize, u: u32) -> usize
+    requires { ⌜ slots ≤ 8 ⌝ }
+    ensures { λ r. ⌜ r ≡ served-by (now (due .entry)) u slots ⌝ }
+{
+    if any_due(due, u) {
+        return which_due(due, slots, u);
+    }
+    slots
 }
 
 // x where it lies after u and before the least so far, or else that.
@@ -189,12 +221,12 @@ fn sooner(least: u32, x: u32, u: u32) -> u32
     least
 }
 
-// The next clock after u at which a process or the slot under way ends, or 2,000,000,000.
-fn next_come(busy: &[u32; 8], slots: usize, flight: u32, u: u32) -> u32
+// The next clock after u at which a process ends, or 2,000,000,000.
+fn next_end(busy: &[u32; 8], slots: usize, u: u32) -> u32
     requires { ⌜ slots ≤ 8 ⌝ }
-    ensures { λ r. ⌜ r ≡ come-by flight (now (busy .entry)) u slots ⌝ }
+    ensures { λ r. ⌜ r ≡ come-by 0 (now (busy .entry)) u slots ⌝ }
 {
-    let mut least = sooner(2000000000, flight, u);
+    let mut least: u32 = 2000000000;
     let mut n: usize = 0;
     while n < slots {
         least = sooner(least, busy[n], u);
@@ -203,15 +235,29 @@ fn next_come(busy: &[u32; 8], slots: usize, flight: u32, u: u32) -> u32
     least
 }
 
-// The next clock after u at which a row is over: worked out again where one is over at u; where only a slot began, at most its end is sooner.
-fn come_after(busy: &[u32; 8], slots: usize, flight: u32, come: u32, u: u32) -> u32
+// The next clock after u at which a process ends: worked out again where one ends at u; elsewhere at most one that starts ends sooner. `first` is the first end of
+// those that start.
+fn ends_after(busy: &[u32; 8], slots: usize, ends: u32, first: u32, u: u32) -> u32
     requires { ⌜ slots ≤ 8 ⌝ }
-    ensures { λ r. ⌜ r ≡ come-now come flight (now (busy .entry)) u slots ⌝ }
+    ensures { λ r. ⌜ r ≡ ends-now ends first (now (busy .entry)) u slots ⌝ }
 {
-    if come == u {
-        return next_come(busy, slots, flight, u);
+    if ends == u {
+        return next_end(busy, slots, u);
     }
-    sooner(come, flight, u)
+    if first < ends {
+        return first;
+    }
+    ends
+}
+
+// The clock at which the items that a node has pending may next change: u where a broadcast arrives at it, or else the next end of a process.
+fn changes(told: u32, ends: u32, u: u32) -> u32
+    ensures { λ r. ⌜ r ≡ changes-at told ends u ⌝ }
+{
+    if told != u {
+        return ends;
+    }
+    u
 }
 
 // The next event: `come`, or when the slot of a node takes an item, if that is sooner.
@@ -229,16 +275,18 @@ fn next_event(due: &[u32; 8], come: u32) -> u32
     least
 }
 
-// Where planning stands: the clock of the event, the clock at which a row is next over, the end of the last slot used, and of the last one with a broadcast.
+// Where planning stands: the clock of the event, the clock at which a row is next over, the end of the last slot used, and of the last one with a broadcast,
+// and the clock at which a process next ends.
 pub struct Clocks {
     pub u: u32,
     pub come: u32,
     pub flight: u32,
     pub told: u32,
+    pub ends: u32,
 }
 
 // One event, at clock u: values that arrive are heard, nodes start, and the slot that begins takes its items. The answer says when the next event is. `come`
-// is the clock at which a row is next over; `run` says which processes may run, `busy` by node when its last process ends, `comes` and `place` by row when it
+// is the clock at which a row is next over, `ends` that at which a process next ends; `run` says which processes may run, `busy` by node when its last process ends, `comes` and `place` by row when it
 // is over and its place, `passed` by node in how many slots a ready item was not taken, `noted` by condition and node the same when the condition's value
 // became known; `stirred` and `due` are what is kept by node, and `wait` has the messages that wait at node n from place queuefirst[n] up to place waitend[n].
 pub fn event<'a>(
@@ -269,6 +317,7 @@ pub fn event<'a>(
     come: u32,
     flight: u32,
     told: u32,
+    ends: u32,
     run: &mut [u32; 64],
     busy: &mut [u32; 8],
     comes: &mut [u32; 198],
@@ -280,9 +329,10 @@ pub fn event<'a>(
     wait: &mut [u32; 128],
     waitend: &mut [u32; 8],
 ) -> Clocks
-    requires { ⌜ Fits (board-of processes tell conditions slots (now node) (now ticks) (now several) (now from) (now cue) (now remote) (now bytes) (now decider) (now intofirst) (now into) (now turnfirst) (now turn) (now queuefirst) (now queue) round (now offset) (now lasts) (now rooms)) × Kept (board-of processes tell conditions slots (now node) (now ticks) (now several) (now from) (now cue) (now remote) (now bytes) (now decider) (now intofirst) (now into) (now turnfirst) (now turn) (now queuefirst) (now queue) round (now offset) (now lasts) (now rooms)) (now unmet) (moment u come flight told (now run) (now busy) (now comes) (now place) (now passed) (now noted)) (now stirred) (now due) × (u ≤ 1000000000) × ((k : ℕ) → getD (now passed) k 0 ≤ u) × (length (now passed) ≡ 8) × Queued (board-of processes tell conditions slots (now node) (now ticks) (now several) (now from) (now cue) (now remote) (now bytes) (now decider) (now intofirst) (now into) (now turnfirst) (now turn) (now queuefirst) (now queue) round (now offset) (now lasts) (now rooms)) (now unmet) (moment u come flight told (now run) (now busy) (now comes) (now place) (now passed) (now noted)) (now wait) (now waitend) ⌝ }
+    requires { ⌜ Fits (board-of processes tell conditions slots (now node) (now ticks) (now several) (now from) (now cue) (now remote) (now bytes) (now decider) (now intofirst) (now into) (now turnfirst) (now turn) (now queuefirst) (now queue) round (now offset) (now lasts) (now rooms)) × Kept (board-of processes tell conditions slots (now node) (now ticks) (now several) (now from) (now cue) (now remote) (now bytes) (now decider) (now intofirst) (now into) (now turnfirst) (now turn) (now queuefirst) (now queue) round (now offset) (now lasts) (now rooms)) (now unmet) (moment u come flight told (now run) (now busy) (now comes) (now place) (now passed) (now noted)) (now stirred) (now due) × (u ≤ 1000000000) × ((k : ℕ) → getD (now passed) k 0 ≤ u) × (length (now passed) ≡ 8) × Ending slots u (now busy) ends × Queued (board-of processes tell conditions slots (now node) (now ticks) (now several) (now from) (now cue) (now remote) (now bytes) (now decider) (now intofirst) (now into) (now turnfirst) (now turn) (now queuefirst) (now queue) round (now offset) (now lasts) (now rooms)) (now unmet) (moment u come flight told (now run) (now busy) (now comes) (now place) (now passed) (now noted)) (now wait) (now waitend) ⌝ }
     ensures event { λ r. ⌜ (moment (r .u) (r .come) (r .flight) (r .told) (now (run .exit)) (now (busy .exit)) (now (comes .exit)) (now (place .exit)) (now (passed .exit)) (now (noted .exit))) ≡ next (board-of processes tell conditions slots (now (node .entry)) (now (ticks .entry)) (now (several .entry)) (now (from .entry)) (now (cue .entry)) (now (remote .entry)) (now (bytes .entry)) (now (decider .entry)) (now (intofirst .entry)) (now (into .entry)) (now (turnfirst .entry)) (now (turn .entry)) (now (queuefirst .entry)) (now (queue .entry)) round (now (offset .entry)) (now (lasts .entry)) (now (rooms .entry))) (now (unmet .entry)) (moment u come flight told (now (run .entry)) (now (busy .entry)) (now (comes .entry)) (now (place .entry)) (now (passed .entry)) (now (noted .entry))) ⌝ }
     ensures kept { λ r. ⌜ Kept (board-of processes tell conditions slots (now (node .entry)) (now (ticks .entry)) (now (several .entry)) (now (from .entry)) (now (cue .entry)) (now (remote .entry)) (now (bytes .entry)) (now (decider .entry)) (now (intofirst .entry)) (now (into .entry)) (now (turnfirst .entry)) (now (turn .entry)) (now (queuefirst .entry)) (now (queue .entry)) round (now (offset .entry)) (now (lasts .entry)) (now (rooms .entry))) (now (unmet .entry)) (moment (r .u) (r .come) (r .flight) (r .told) (now (run .exit)) (now (busy .exit)) (now (comes .exit)) (now (place .exit)) (now (passed .exit)) (now (noted .exit))) (now (stirred .exit)) (now (due .exit)) ⌝ }
+    ensures ending { λ r. ⌜ Ending slots (r .u) (now (busy .exit)) (r .ends) ⌝ }
     ensures queued { λ r. ⌜ Queued (board-of processes tell conditions slots (now (node .entry)) (now (ticks .entry)) (now (several .entry)) (now (from .entry)) (now (cue .entry)) (now (remote .entry)) (now (bytes .entry)) (now (decider .entry)) (now (intofirst .entry)) (now (into .entry)) (now (turnfirst .entry)) (now (turn .entry)) (now (queuefirst .entry)) (now (queue .entry)) round (now (offset .entry)) (now (lasts .entry)) (now (rooms .entry))) (now (unmet .entry)) (moment (r .u) (r .come) (r .flight) (r .told) (now (run .exit)) (now (busy .exit)) (now (comes .exit)) (now (place .exit)) (now (passed .exit)) (now (noted .exit))) (now (wait .exit)) (now (waitend .exit)) ⌝ }
 {
     note(told, u, tell, conditions, comes, passed, noted);
@@ -299,6 +349,7 @@ pub fn event<'a>(
         into,
         run,
     );
+    let look = changes(told, ends, u);
     attend(
         processes,
         tell,
@@ -315,14 +366,14 @@ pub fn event<'a>(
         busy,
         round,
         offset,
-        come,
+        look,
         told,
         u,
         due,
         wait,
         waitend,
     );
-    begin(
+    let first = begin(
         come,
         processes,
         slots,
@@ -369,12 +420,14 @@ pub fn event<'a>(
         wait,
         waitend,
     );
-    let over = come_after(busy, slots, s.flight, come, u);
+    let ending = ends_after(busy, slots, ends, first, u);
+    let over = sooner(ending, s.flight, u);
     let next = next_event(due, over);
     Clocks {
         u: next,
         come: over,
         flight: s.flight,
         told: s.told,
+        ends: ending,
     }
 }

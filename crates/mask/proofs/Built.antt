@@ -1,17 +1,18 @@
--- Masks built from their highest bit down: their bits, their members, the turns of the loop that builds one, and masks of tests that agree.
+-- Masks built from their highest bit down: their bits, their members, the turns of the loop that builds one, masks of tests that agree, and the mask of either of two tests.
 -- Assumes nothing.
 use mathlib.Core.Path.{_≡_, refl, sym, ap, _∙_}
-use mathlib.Core.Bool.{Bool, true, false}
+use mathlib.Core.Bool.{Bool, true, false, _||_}
 use mathlib.Core.List.{_∷_}
-use Prim.Native.Nat.{ℕ, zero, suc, _+_, _-_, _/_, _%_, _^_, _≤_, _<_}
+use Prim.Native.Nat.{ℕ, zero, suc, _+_, _-_, _*_, _/_, _%_, _^_, _≤_, _<_, max}
 use native.Mathlib.Nat.{pow-suc, pow-succ', div-div-eq-div-mul, div-one, zero-div, add-zero, zero-add, sub-self}
 use native.Mathlib.Omega.{arith}
+use lib.Bits.{bitOr, or-step}
 use lib.Dec.{eqb}
 use lib.Pow.{pow-pos}
 use Rattle.lists.specs.Lists.{if_then_else_, keep, upfrom, below}
 use Rattle.lists.proofs.Keep.{shift}
 use Rattle.model.specs.Listing.{bit}
-use Rattle.mask.specs.Masks.{members, under, mask-from}
+use Rattle.mask.specs.Masks.{members, nodes, under, mask-from}
 
 -- the lowest bit of a mask, and the rest
 pub under-low : (b : Bool) (m : ℕ) → under b m % 2 ≡ (if b then 1 else 0)
@@ -66,10 +67,17 @@ keep-within f g a (suc n) (suc size) l same out =
     λ i. if same a (omega arith) (omega arith) i then (a ∷ r i) else r i
 
 -- a mask built from a test has the numbers that pass it
+built-within : (f : ℕ → Bool) (n size : ℕ) → n ≤ size → keep (bit (mask-from f 0 n)) (below size) ≡ keep f (below n)
+built-within f n size l =
+    keep-within f (bit (mask-from f 0 n)) 0 n size l (λ k lo hi. built-bit f 0 n k (omega arith) ∙ ap f (zero-add k)) (λ k h. built-beyond f 0 n k (omega arith))
+
 pub built-members : (f : ℕ → Bool) (n : ℕ) → n ≤ 6 → members (mask-from f 0 n) ≡ keep f (below n)
 unfolding members
-built-members f n l =
-    keep-within f (bit (mask-from f 0 n)) 0 n 6 l (λ k lo hi. built-bit f 0 n k (omega arith) ∙ ap f (zero-add k)) (λ k h. built-beyond f 0 n k (omega arith))
+built-members f n l = built-within f n 6 l
+
+pub built-nodes : (f : ℕ → Bool) (n : ℕ) → n ≤ 8 → nodes (mask-from f 0 n) ≡ keep f (below n)
+unfolding nodes
+built-nodes f n l = built-within f n 8 l
 
 -- a mask of n bits fits into as many or more
 pub built-small : (f : ℕ → Bool) (a n size : ℕ) → n ≤ size → mask-from f a n < 2 ^ size
@@ -96,3 +104,20 @@ built-same f g a zero h = refl
 built-same f g a (suc n) h =
     let r = built-same f g (suc a) n (λ k l m. h k (omega arith) (omega arith)) in
     λ i. under (h a (omega arith) (omega arith) i) (r i)
+
+-- the bits of either of two masks are those of either test
+under-either : (a b : Bool) (m n : ℕ) → bitOr (under a m) (under b n) ≡ under (a || b) (bitOr m n)
+under-either a b m n =
+    or-step (under a m) (under b n)
+    ∙ (λ i. bitOr (under-rest a m i) (under-rest b n i) * 2 + max (under-low a m i) (under-low b n i))
+    ∙ at a b
+  where
+    at : (a b : Bool) → bitOr m n * 2 + max (if a then 1 else 0) (if b then 1 else 0) ≡ under (a || b) (bitOr m n)
+    at true true = omega arith
+    at true false = omega arith
+    at false true = omega arith
+    at false false = omega arith
+
+pub built-either : (f g : ℕ → Bool) (a n : ℕ) → bitOr (mask-from f a n) (mask-from g a n) ≡ mask-from (λ k. f k || g k) a n
+built-either f g a zero = refl
+built-either f g a (suc n) = under-either (f a) (g a) (mask-from f (suc a) n) (mask-from g (suc a) n) ∙ ap (under (f a || g a)) (built-either f g (suc a) n)

@@ -11,6 +11,10 @@ use Rattle.model.specs.Listing.{bit}
 unfoldable pub members : ℕ → List ℕ
 members m = keep (bit m) (below 6)
 
+-- the nodes whose bits are set in a mask of eight bits, ascending
+unfoldable pub nodes : ℕ → List ℕ
+nodes m = keep (bit m) (below 8)
+
 -- a mask with one bit more below its lowest
 abbrev pub under : Bool → ℕ → ℕ
 under b m = (if b then 1 else 0) + 2 * m

@@ -1,10 +1,10 @@
-// Masks of up to six conditions: the members of a mask lowest first, their number, and a mask built from its highest bit down.
+// Masks of up to six conditions, and of up to eight nodes: the members of a mask lowest first, their number, and a mask built from its highest bit down.
 ghost use mathlib.Core.Path.{_≡_};
 ghost use mathlib.Core.List.{_∷_};
 ghost use Prim.Native.Nat.{_<_};
 ghost use lib.ListN.{length, drop};
 ghost use Rattle.lists.specs.Lists.{null};
-ghost use Rattle.mask.specs.Masks.{members, under};
+ghost use Rattle.mask.specs.Masks.{members, nodes, under};
 
 // Whether a mask has no members.
 pub fn is_empty(mask: u32) -> bool
@@ -42,6 +42,33 @@ pub fn without_lowest(mask: u32) -> u32
 pub fn with_bit(mask: u32, set: bool) -> u32
     requires { ⌜ mask < 32 ⌝ }
     ensures { λ r. ⌜ (r ≡ under set mask) × (r < 64) ⌝ }
+{
+    if set {
+        return mask * 2 + 1;
+    }
+    mask * 2
+}
+
+// The lowest node of a mask of nodes.
+pub fn lowest_node(those: u32) -> u32
+    requires { ⌜ (0 < those) × (those < 256) ⌝ }
+    ensures { λ r. ⌜ nodes those ≡ r ∷ drop 1 (nodes those) ⌝ }
+{
+    u32::trailing_zeros(those)
+}
+
+// A mask of nodes without its lowest node.
+pub fn without_lowest_node(those: u32) -> u32
+    requires { ⌜ (0 < those) × (those < 256) ⌝ }
+    ensures { λ r. ⌜ (nodes r ≡ drop 1 (nodes those)) × (r < those) ⌝ }
+{
+    those & (those - 1)
+}
+
+// A mask of nodes with one node more below its lowest.
+pub fn with_node(mask: u32, set: bool) -> u32
+    requires { ⌜ mask < 128 ⌝ }
+    ensures { λ r. ⌜ (r ≡ under set mask) × (r < 256) ⌝ }
 {
     if set {
         return mask * 2 + 1;

@@ -1,7 +1,7 @@
 -- Laws of the starts at one event: Picks (the first of a part of an array), Found (the first of a node, in the code and in the model), Rows
 -- (the order in which the units start does not matter), Ends (where the nodes' last processes end, after a start), Steps (what the start of one node does to the arrays), Links (`starts-link`: the starts over
 -- the arrays are those of the model), Turns (what stands in the turn of a node is its own), Quiet (a node for which nothing is new has nothing to
--- start).
+-- start), Fresh (the starts of the nodes for which something is new are those of all, and the first end of what starts).
 pub mod Picks
 pub mod Found
 pub mod Rows
@@ -10,3 +10,4 @@ pub mod Steps
 pub mod Links
 pub mod Turns
 pub mod Quiet
+pub mod Fresh

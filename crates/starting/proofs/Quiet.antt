@@ -1,5 +1,5 @@
 -- A process for which nothing has changed can start just where it could before (`idle-stays`); a node with nothing new has nothing to start after
--- the nodes before it have started (`idle-then`); after the starts no process of a free node can start (`starts-idle`).
+-- the nodes before it have started (`idle-then`, `old-then`); after the starts no process of a free node can start (`starts-idle`).
 -- Assumes nothing.
 use mathlib.Core.Path.{_≡_, refl, sym, ap, _∙_, subst}
 use mathlib.Core.Logic.{_⊎_, inl, inr}
@@ -8,10 +8,10 @@ use mathlib.Core.List.{List, List·Memᴰ as In}
 use Prim.Native.Nat.{ℕ, zero, suc, _+_, _≤_, _<_}
 use native.Mathlib.Nat.{not-suc-le-zero}
 use native.Mathlib.Omega.{arith}
-use lib.Dec.{eqb, ltb}
+use lib.Dec.{eqb, leb, ltb}
 use lib.ListN.{length, getD, set, length-set}
 use lib.Seq.{set-out, getD-set-other}
-use borrow.Author.Tests.{ltb-true, ltb-false}
+use borrow.Author.Tests.{leb-true, ltb-true, ltb-false}
 use Rattle.lists.specs.Lists.{if_then_else_}
 use Rattle.lists.proofs.Tests.{two, below-suc}
 use Rattle.lists.proofs.Members.{any-same, all-same}
@@ -19,7 +19,7 @@ use Rattle.readiness.specs.Reading.{came-by, edges-into, message-by, delivered-
 use Rattle.starting.specs.Starting.{Ends, can-start, start-by, starts-by}
 use Rattle.starting.specs.Quiet.{Idle, Quiet}
 use Rattle.starting.proofs.Ends.{set-there, came-start}
-use Rattle.starting.proofs.Steps.{Stepped, stays, begins, stepped}
+use Rattle.starting.proofs.Steps.{step-busy, idle-step, Stepped, stays, begins, stepped}
 
 -- a process that ends after the clock starts: what has come by the clock stays
 came-after : (comes : List ℕ) (u i end : ℕ) → u < end → getD comes i 0 ≡ 0 → came-by (set comes i end) u ≡ came-by comes u
@@ -154,6 +154,16 @@ module _ (processes : ℕ) (remote from cue unmet run several intofirst into : L
           idle-stays u u comes (after n .comes) (getD turn j 0)
           (alike-rows u comes (after n .comes) (getD turn j 0) (ap (λ (x : ℕ). eqb x 0) (z .later-rows n j (omega arith) l c d)) (z .came))
           ∙ q .idle n l (omega (arith, z .later-nodes n (omega arith))) t j c d
+
+      -- and its start then changes nothing
+      pub old-then : (n : ℕ) → n < slots → (getD busy n 0 ≡ u → ⊥) → (getD stirred n 0 ≡ u → ⊥) → step n (after n) ≡ after n
+      old-then n l d t = by (two (leb (getD (after n .busy) n 0) u))
+        where
+          by : (leb (getD (after n .busy) n 0) u ≡ true) ⊎ (leb (getD (after n .busy) n 0) u ≡ false) → step n (after n) ≡ after n
+          by (inl e) =
+              idle-step processes remote from cue unmet run several intofirst into u turnfirst turn ticks n (after n)
+              (idle-then n l (omega (arith, leb-true (getD (after n .busy) n 0) u e, so-far n (omega arith) .later-nodes n (omega arith), d)) t)
+          by (inr e) = step-busy processes remote from cue unmet run several intofirst into u turnfirst turn ticks n (after n) e
 
       -- After the starts of the nodes below n, none of their processes can start where they are free.
       record Settled (n : ℕ) (s : Ends) : Type 0 where

@@ -1,3 +1,4 @@
 pub mod Starting
 pub mod Busy
 pub mod Quiet
+pub mod News

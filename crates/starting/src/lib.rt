@@ -1,13 +1,21 @@
 // The starts at one event: each free node starts its ready process of highest urgency, ties to the lower number.
 // specs/Starting.antt says what the arrays hold.
+use mask::lowest_node;
+use mask::with_node;
+use mask::without_lowest_node;
 use readiness::ready;
 ghost use mathlib.Core.Path.{_≡_};
-ghost use mathlib.Core.Bool.{false};
+ghost use mathlib.Core.Logic.{_⊎_};
+ghost use mathlib.Core.List.{List};
 ghost use Prim.Native.Nat.{ℕ, _+_, _<_, _≤_};
-ghost use lib.ListN.{getD};
+ghost use lib.Dec.{eqb};
+ghost use lib.ListN.{length, getD};
+ghost use Rattle.lists.specs.Lists.{keep, below};
+ghost use Rattle.mask.specs.Masks.{nodes, mask-from};
 ghost use Rattle.readiness.specs.Reading.{part, Within};
-ghost use Rattle.starting.specs.Starting.{can-start, first-of, end-after, rows-after, start-by, starts-by};
-ghost use Rattle.starting.specs.Quiet.{Idle, Quiet};
+ghost use Rattle.starting.specs.Starting.{can-start, first-of, end-after, rows-after, starts-by};
+ghost use Rattle.starting.specs.Quiet.{Quiet};
+ghost use Rattle.starting.specs.News.{start-in, new-at, Soonest};
 
 // Process i has not started, and it is ready.
 fn can_start<'a>(
@@ -139,17 +147,20 @@ fn start<'a>(
     end
 }
 
-// Whether something is new for a node at clock u: its last process ends at it, or the node is stirred at it.
-fn has_news(u: u32, last: u32, stir: u32) -> bool
-    ensures { λ r. ⌜ (r ≡ false → (last ≡ u → ⊥) × (stir ≡ u → ⊥)) ⌝ }
+// The end of a process that starts, where it is the first to end so far, or else the first so far. A process that ends by the clock u has not started at it.
+fn sooner_end(first: u32, end: u32, u: u32) -> u32
+    ensures { λ r. ⌜ (r ≤ first) × (u < end → r ≤ end) × ((r ≡ first) ⊎ ((u < end) × (r ≡ end))) ⌝ }
 {
-    if last == u {
-        return true;
+    if u < end {
+        if end < first {
+            return end;
+        }
     }
-    stir == u
+    first
 }
 
-// Node n starts, if it is free. It looks for a start only where something is new for it.
+// Node n starts, if it is one of the nodes and free. `first` is the end of the process that ends first of those that the nodes before it started, and so is the
+// answer with node n.
 fn start_node<'a>(
     processes: usize,
     remote: &'a [u32; 128],
@@ -164,47 +175,73 @@ fn start_node<'a>(
     turn: &'a [u32; 128],
     ticks: &'a [u32; 64],
     u: u32,
-    stirred: &'a [u32; 8],
+    slots: usize,
     n: usize,
+    first: u32,
     busy: &mut [u32; 8],
     comes: &mut [u32; 198],
-)
-    requires { ⌜ (n < 8) × (processes ≤ 64) × ((k : ℕ) → getD (now intofirst) k 0 ≤ 128) × Within (now from) (now cue) (now into) × ((k : ℕ) → getD (now turnfirst) k 0 ≤ 128) × ((j : ℕ) → getD (now turn) j 0 < 64) × (u ≤ 1000000000) × ((i : ℕ) → getD (now ticks) i 0 ≤ 100000) × (getD (now busy) n 0 < u → (getD (now stirred) n 0 ≡ u → ⊥) → Idle processes (now remote) (now from) (now cue) (now unmet) (now run) (now several) (now intofirst) (now into) u (now turnfirst) (now turn) (now comes) n) ⌝ }
-    ensures ends { λ _. ⌜ now (busy .exit) ≡ start-by processes (now (remote .entry)) (now (from .entry)) (now (cue .entry)) (now (unmet .entry)) (now (run .entry)) (now (several .entry)) (now (intofirst .entry)) (now (into .entry)) u (now (turnfirst .entry)) (now (turn .entry)) (now (ticks .entry)) n (record { busy = now (busy .entry); comes = now (comes .entry) }) .busy ⌝ }
-    ensures rows { λ _. ⌜ now (comes .exit) ≡ start-by processes (now (remote .entry)) (now (from .entry)) (now (cue .entry)) (now (unmet .entry)) (now (run .entry)) (now (several .entry)) (now (intofirst .entry)) (now (into .entry)) u (now (turnfirst .entry)) (now (turn .entry)) (now (ticks .entry)) n (record { busy = now (busy .entry); comes = now (comes .entry) }) .comes ⌝ }
+) -> u32
+    requires { ⌜ (n < 8) × (processes ≤ 64) × ((k : ℕ) → getD (now intofirst) k 0 ≤ 128) × Within (now from) (now cue) (now into) × ((k : ℕ) → getD (now turnfirst) k 0 ≤ 128) × ((j : ℕ) → getD (now turn) j 0 < 64) × (u ≤ 1000000000) × ((i : ℕ) → getD (now ticks) i 0 ≤ 100000) ⌝ }
+    ensures ends { λ _. ⌜ now (busy .exit) ≡ start-in processes (now (remote .entry)) (now (from .entry)) (now (cue .entry)) (now (unmet .entry)) (now (run .entry)) (now (several .entry)) (now (intofirst .entry)) (now (into .entry)) u (now (turnfirst .entry)) (now (turn .entry)) (now (ticks .entry)) slots n (record { busy = now (busy .entry); comes = now (comes .entry) }) .busy ⌝ }
+    ensures rows { λ _. ⌜ now (comes .exit) ≡ start-in processes (now (remote .entry)) (now (from .entry)) (now (cue .entry)) (now (unmet .entry)) (now (run .entry)) (now (several .entry)) (now (intofirst .entry)) (now (into .entry)) u (now (turnfirst .entry)) (now (turn .entry)) (now (ticks .entry)) slots n (record { busy = now (busy .entry); comes = now (comes .entry) }) .comes ⌝ }
+    ensures soonest { λ r. ⌜ ((before : List ℕ) → Soonest slots u before (now (busy .entry)) first → Soonest slots u before (now (busy .exit)) r) ⌝ }
 {
-    let last = busy[n];
-    if last <= u {
-        let stir = stirred[n];
-        if has_news(u, last, stir) {
-            let a = turnfirst[n] as usize;
-            let b = turnfirst[n + 1] as usize;
-            let end = start(
-                processes,
-                remote,
-                from,
-                cue,
-                unmet,
-                run,
-                several,
-                intofirst,
-                into,
-                turn,
-                ticks,
-                a,
-                b,
-                u,
-                last,
-                comes,
-            );
-            busy[n] = end;
-        }
+    if slots <= n {
+        return first;
     }
+    let last = busy[n];
+    if u < last {
+        return first;
+    }
+    let a = turnfirst[n] as usize;
+    let b = turnfirst[n + 1] as usize;
+    let end = start(
+        processes,
+        remote,
+        from,
+        cue,
+        unmet,
+        run,
+        several,
+        intofirst,
+        into,
+        turn,
+        ticks,
+        a,
+        b,
+        u,
+        last,
+        comes,
+    );
+    busy[n] = end;
+    sooner_end(first, end, u)
+}
+
+// The mask of the nodes that have the clock u in an array by node.
+fn at_clock(by: &[u32; 8], u: u32) -> u32
+    ensures { λ r. ⌜ r ≡ mask-from (λ n. eqb (getD (now (by .entry)) n 0) u) 0 8 ⌝ }
+{
+    let mut mask: u32 = 0;
+    let mut n: usize = 8;
+    while 0 < n {
+        n -= 1;
+        mask = with_node(mask, by[n] == u);
+    }
+    mask
+}
+
+// The mask of the nodes for which something is new at clock u: an item arrives, or the last process ends.
+fn news<'a>(u: u32, stirred: &'a [u32; 8], busy: &'a [u32; 8]) -> u32
+    ensures { λ r. ⌜ (nodes r ≡ keep (new-at (now (stirred .entry)) (now (busy .entry)) u) (below 8)) × (r < 256) ⌝ }
+{
+    let items = at_clock(stirred, u);
+    let ends = at_clock(busy, u);
+    items | ends
 }
 
 // Each free node starts its first ready process in turn that has not started: `busy` has then the end of each node's last process,
 // and `comes` the end of each process. A node whose last process does not end at this clock, and that is not stirred at it, has
-// nothing new and is passed by.
+// nothing new and is passed by. The answer is the end of the process that ends first of those that start, or 2,000,000,000.
 pub fn starts<'a>(
     processes: usize,
     slots: usize,
@@ -223,14 +260,17 @@ pub fn starts<'a>(
     stirred: &'a [u32; 8],
     busy: &mut [u32; 8],
     comes: &mut [u32; 198],
-)
+) -> u32
     requires { ⌜ (slots ≤ 8) × (processes ≤ 64) × ((k : ℕ) → getD (now intofirst) k 0 ≤ 128) × Within (now from) (now cue) (now into) × ((k : ℕ) → getD (now turnfirst) k 0 ≤ 128) × ((j : ℕ) → getD (now turn) j 0 < 64) × (u ≤ 1000000000) × ((i : ℕ) → getD (now ticks) i 0 ≤ 100000) × Quiet processes slots (now remote) (now from) (now cue) (now unmet) (now run) (now several) (now intofirst) (now into) (now turnfirst) (now turn) (now ticks) u (now stirred) (now busy) (now comes) ⌝ }
     ensures ends { λ _. ⌜ now (busy .exit) ≡ starts-by processes (now (remote .entry)) (now (from .entry)) (now (cue .entry)) (now (unmet .entry)) (now (run .entry)) (now (several .entry)) (now (intofirst .entry)) (now (into .entry)) u (now (turnfirst .entry)) (now (turn .entry)) (now (ticks .entry)) slots (record { busy = now (busy .entry); comes = now (comes .entry) }) .busy ⌝ }
     ensures rows { λ _. ⌜ now (comes .exit) ≡ starts-by processes (now (remote .entry)) (now (from .entry)) (now (cue .entry)) (now (unmet .entry)) (now (run .entry)) (now (several .entry)) (now (intofirst .entry)) (now (into .entry)) u (now (turnfirst .entry)) (now (turn .entry)) (now (ticks .entry)) slots (record { busy = now (busy .entry); comes = now (comes .entry) }) .comes ⌝ }
+    ensures soonest { λ r. ⌜ (length (now (busy .entry)) ≡ 8 → Soonest slots u (now (busy .entry)) (now (busy .exit)) r) ⌝ }
 {
-    let mut n: usize = 0;
-    while n < slots {
-        start_node(
+    let mut first: u32 = 2000000000;
+    let mut left = news(u, stirred, busy);
+    while left != 0 {
+        let n = lowest_node(left) as usize;
+        first = start_node(
             processes,
             remote,
             from,
@@ -244,11 +284,13 @@ pub fn starts<'a>(
             turn,
             ticks,
             u,
-            stirred,
+            slots,
             n,
+            first,
             busy,
             comes,
         );
-        n += 1;
+        left = without_lowest_node(left);
     }
+    first
 }

@@ -8,6 +8,7 @@ use borrow.Author.Needs.{needs}
 use Rattle.board.specs.declared.Board.{Board}
 use Rattle.event.specs.Course.{Moment, moment, over, from-clock, board-of}
 use Rattle.event.specs.Kept.{Kept, Queued}
+use Rattle.event.specs.Ending.{Ending}
 use Rattle.event.proofs.Loops.{next-later}
 use Rattle.event.proofs.Keeping.{kept-start, queued-start}
 use Rattle.course.proofs.Loops.{Going, going-start, going-on}
@@ -15,13 +16,13 @@ use Rattle.course.proofs.course.Statement.{statement}
 use Rattle.course.proofs.course.Tie as tie
 
 abbrev Inv-loop : tie.InvT-loop
-Inv-loop processes tell conditions slots node ticks several from cue remote bytes decider intofirst into turnfirst turn queuefirst queue round offset lasts rooms unmet start flight comes₀ place₀ passed₀ noted₀ run₀ busy₀ stirred₀ due₀ wait₀ waitend₀ under₀ told₀ come₀ u₀ comes place passed noted run busy stirred due wait waitend under told come u =
+Inv-loop processes tell conditions slots node ticks several from cue remote bytes decider intofirst into turnfirst turn queuefirst queue round offset lasts rooms unmet start flight comes₀ place₀ passed₀ noted₀ run₀ busy₀ stirred₀ due₀ wait₀ waitend₀ under₀ told₀ come₀ ending₀ u₀ comes place passed noted run busy stirred due wait waitend under told come ending u =
     let b : Board = board-of processes tell conditions slots node ticks several from cue remote bytes decider intofirst into turnfirst turn queuefirst queue round offset lasts rooms in
     let m : Moment = moment u come under told run busy comes place passed noted in
-    Going b unmet (from-clock start flight busy₀ comes₀ place₀ passed₀ noted₀) m × Kept b unmet m stirred due × Queued b unmet m wait waitend
+    Going b unmet (from-clock start flight busy₀ comes₀ place₀ passed₀ noted₀) m × Kept b unmet m stirred due × Ending slots u busy ending × Queued b unmet m wait waitend
 
 abbrev μ-loop : tie.MeasureT-loop
-μ-loop processes tell conditions slots node ticks several from cue remote bytes decider intofirst into turnfirst turn queuefirst queue round offset lasts rooms unmet start flight comes₀ place₀ passed₀ noted₀ run₀ busy₀ stirred₀ due₀ wait₀ waitend₀ under₀ told₀ come₀ u₀ comes place passed noted run busy stirred due wait waitend under told come u =
+μ-loop processes tell conditions slots node ticks several from cue remote bytes decider intofirst into turnfirst turn queuefirst queue round offset lasts rooms unmet start flight comes₀ place₀ passed₀ noted₀ run₀ busy₀ stirred₀ due₀ wait₀ waitend₀ under₀ told₀ come₀ ending₀ u₀ comes place passed noted run busy stirred due wait waitend under told come ending u =
     2000000001 - u
 
 -- the board, the loop's test and the moment there
@@ -65,6 +66,7 @@ loop-holds c =
     let a = s .args in (
       going-start (board s) (a .unmet .now) (a .start) (a .flight) (a .ends) (a .comes .now) (a .place .now) (a .passed .now) (a .noted .now) (n .none .ensures) (s .pre .2) (s .pre .3) (s .pre .4),
       kept-start (board s) (s .pre .0) (a .unmet .now) (a .start) (a .flight) (n .none .result) (a .ends) (a .comes .now) (a .place .now) (a .passed .now) (a .noted .now) _ _ (s .pre .2) (s .pre .5) (s .pre .6) (s .pre .1) (e .before .each-node .ensures) (e .each-node2 .ensures),
+      record { end-now = λ n l q. refl; end-ahead = λ d. absurd (d refl) },
       queued-start (board s) (s .pre .0) (a .unmet .now) (a .start) (a .flight) (n .none .result) (a .ends) (a .comes .now) (a .place .now) (a .passed .now) (a .noted .now) _ _ (c .before .no-messages .ensures) (c .each-node3 .ensures),
     )
 
@@ -72,7 +74,7 @@ event-requires : tie.Need-event-requires Inv-loop μ-loop
 event-requires c κs =
     let i = c .before .before .before .before .before .before .before .before .before .before in
     let l = i .before in
-    (entry l .pre .0, l .loop .inv .1, omega (arith, i .loop-test .taken), l .loop .inv .0 .counts-low, l .loop .inv .0 .counts-long, l .loop .inv .2)
+    (entry l .pre .0, l .loop .inv .1, omega (arith, i .loop-test .taken), l .loop .inv .0 .counts-low, l .loop .inv .0 .counts-long, l .loop .inv .2, l .loop .inv .3)
 
 loop-less : tie.Need-loop-less Inv-loop μ-loop
 loop-less c =
@@ -90,7 +92,8 @@ loop-again c =
       subst (Going (board s) (a .unmet .now) (from-clock (a .start) (a .flight) (a .ends) (a .comes .now) (a .place .now) (a .passed .now) (a .noted .now))) (sym (c .event .ensures .0))
           (going-on (board s) (a .unmet .now) (s .pre .0) (l .loop .inv .0) (omega (arith, i .loop-test .taken))),
       c .event .ensures .1 .0,
-      c .event .ensures .1 .1,
+      c .event .ensures .1 .1 .0,
+      c .event .ensures .1 .1 .1,
     )
 
 returns : tie.Need-returns Inv-loop μ-loop

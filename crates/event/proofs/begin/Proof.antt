@@ -2,6 +2,7 @@
 -- Assumes nothing.
 use borrow.Author.Tests.{eq-eqb, ne-eqb}
 use borrow.Author.Needs.{needs}
+use Rattle.starting.proofs.Fresh.{soonest-none}
 use Rattle.event.specs.Course.{begun-by}
 use Rattle.event.proofs.begin.Statement.{statement}
 use Rattle.event.proofs.begin.Tie as tie
@@ -13,11 +14,15 @@ returns : tie.Need-returns
 unfolding begun-by
 returns c =
     let q = eq-eqb _ _ (c .before .before .before .if1 .taken) in
-    (rw q (c .starts .ensures .0), rw q (c .starts .ensures .1))
+    let e = c .starts .ensures in
+    (rw q (e .0), (rw q (e .1 .0), e .1 .1))
 
 returns-2 : tie.Need-returns-2
 unfolding begun-by
-returns-2 c = let e = ne-eqb _ _ (c .if1 .left) in (rw e, rw e)
+returns-2 c =
+    let e = ne-eqb _ _ (c .if1 .left) in
+    let a = c .before .args in
+    (rw e, (rw e, soonest-none (a .slots) (a .u) (a .busy .now)))
 
 pub begin-spec : {M : Type 1} → statement M
 begin-spec = tie.close (tie.spec starts-requires returns returns-2)

@@ -26,7 +26,10 @@ of-note c = c .before .before .before .before
 abbrev of-heard : tie.After-heard → tie.After-note
 of-heard c = c .before .before .before
 
-abbrev of-attend : tie.After-attend → tie.After-heard
+abbrev of-changes : tie.After-changes → tie.After-heard
+of-changes c = c .before
+
+abbrev of-attend : tie.After-attend → tie.After-changes
 of-attend c = c .before .before .before .before .before .before
 
 abbrev of-begin : tie.After-begin → tie.After-attend
@@ -38,8 +41,8 @@ of-served c = c .before .before
 abbrev of-serve : tie.After-serve → tie.After-served
 of-serve c = c .before .before .before .before .before .before .before .before
 
-abbrev of-come : tie.After-come-after → tie.After-serve
-of-come c = c .before .before
+abbrev of-ends : tie.After-ends-after → tie.After-serve
+of-ends c = c .before .before
 
 note-requires : tie.Need-note-requires
 unfolding board-of
@@ -53,39 +56,48 @@ heard-requires c κs =
     let f = of-note (c .before .before) .pre .0 in
     (f .few-processes, f .into-firsts, f .within-into)
 
+changes-requires : tie.Need-changes-requires
+changes-requires c κs = search needs
+
 attend-requires : tie.Need-attend-requires
 unfolding board-of
 attend-requires c κs =
-    let s = of-note (of-heard (c .before .before .before .before .before)) in
+    let s = of-note (of-heard (of-changes (c .before .before .before .before .before))) in
     let f = s .pre .0 in
-    (f .few-slots, f .few-processes, f .few-rows, f .few-conditions, f .deciders, f .within-queue, f .queue-firsts, f .round-one, f .round-most, f .offset-most, s .pre .1 .from-one, s .pre .2, f .queue-rising, s .pre .5 .roomy)
+    (f .few-slots, f .few-processes, f .few-rows, f .few-conditions, f .deciders, f .within-queue, f .queue-firsts, f .round-one, f .round-most, f .offset-most, s .pre .1 .from-one, s .pre .2, f .queue-rising, s .pre .6 .roomy)
 
 begin-requires : tie.Need-begin-requires
 unfolding board-of hears
 begin-requires c κs =
-    let h = of-attend (c .before .before .before .before) in
+    let h = of-changes (of-attend (c .before .before .before .before)) in
     let s = of-note (of-heard h) in
     let a = s .args in
     let f = s .pre .0 in
     (f .few-slots, f .few-processes, f .into-firsts, f .within-into, f .turn-firsts, f .turn-members, s .pre .2, f .ticks-small, quiet (board s) f (a .unmet .now) (at s) (a .stirred .now) (a .due .now) (s .pre .1) _ (h .heard .ensures))
 
 served-requires : tie.Need-served-requires
-served-requires c κs = search needs
+unfolding board-of
+served-requires c κs = of-note (of-heard (of-changes (of-attend (of-begin (c .before))))) .pre .0 .few-slots
 
 serve-requires : tie.Need-serve-requires
 unfolding board-of hears begins-with waiting messages
 serve-requires c κs =
     let v = c .before .before .before .before .before .before .before in
     let d = of-begin (of-served v) in
-    let s = of-note (of-heard (of-attend d)) in
+    let x = of-attend d in
+    let h = of-changes x in
+    let s = of-note (of-heard h) in
     let a = s .args in
     let f = s .pre .0 in
-    let w = waits-now (board s) f (a .unmet .now) (at s) (a .stirred .now) (a .due .now) (s .pre .1) (a .wait .now) (a .waitend .now) (s .pre .5) _ _ (d .attend .ensures .1) _ (d .attend .ensures .0) (s .pre .2) _ (v .served .ensures) in
-    (f .few-processes, f .few-rows, f .few-conditions, f .few-slots, node-low (board s) f (a .unmet .now) (at s) (a .stirred .now) (a .due .now) (s .pre .1) _ (d .attend .ensures .0) (s .pre .2) _ (v .served .ensures), f .deciders, f .queue-firsts, f .round-one, f .round-most, f .offset-most, s .pre .2, f .lasts-small, s .pre .3, remote-now (board s) f (a .unmet .now) (at s) (a .stirred .now) (a .due .now) (s .pre .1) (a .wait .now) (a .waitend .now) (s .pre .5) _ _ (d .attend .ensures .1) _ (d .attend .ensures .0) (s .pre .2) _ (v .served .ensures), f .remote-most, λ l. w _ l .begins, λ l. w _ l .ends, roomy-now (board s) f (a .unmet .now) (at s) (a .stirred .now) (a .due .now) (s .pre .1) (a .wait .now) (a .waitend .now) (s .pre .5) _ _ (d .attend .ensures .1) _ (d .attend .ensures .0) (s .pre .2) _ (v .served .ensures))
+    let w = waits-now (board s) f (a .unmet .now) (at s) (a .stirred .now) (a .due .now) (s .pre .1) _ (s .pre .5) _ (x .changes .ensures) (a .wait .now) (a .waitend .now) (s .pre .6) _ _ (d .attend .ensures .1) _ (d .attend .ensures .0) (s .pre .2) _ (v .served .ensures) in
+    (f .few-processes, f .few-rows, f .few-conditions, f .few-slots, node-low (board s) f (a .unmet .now) (at s) (a .stirred .now) (a .due .now) (s .pre .1) _ (s .pre .5) _ (x .changes .ensures) _ (d .attend .ensures .0) (s .pre .2) _ (v .served .ensures), f .deciders, f .queue-firsts, f .round-one, f .round-most, f .offset-most, s .pre .2, f .lasts-small, s .pre .3, remote-now (board s) f (a .unmet .now) (at s) (a .stirred .now) (a .due .now) (s .pre .1) _ (s .pre .5) _ (x .changes .ensures) (a .wait .now) (a .waitend .now) (s .pre .6) _ _ (d .attend .ensures .1) _ (d .attend .ensures .0) (s .pre .2) _ (v .served .ensures), f .remote-most, λ l. w _ l .begins, λ l. w _ l .ends, roomy-now (board s) f (a .unmet .now) (at s) (a .stirred .now) (a .due .now) (s .pre .1) _ (s .pre .5) _ (x .changes .ensures) (a .wait .now) (a .waitend .now) (s .pre .6) _ _ (d .attend .ensures .1) _ (d .attend .ensures .0) (s .pre .2) _ (v .served .ensures))
 
-come-after-requires : tie.Need-come-after-requires
+ends-after-requires : tie.Need-ends-after-requires
 unfolding board-of
-come-after-requires c κs = of-note (of-heard (of-attend (of-begin (of-served (of-serve (c .before)))))) .pre .0 .few-slots
+ends-after-requires c κs = of-note (of-heard (of-changes (of-attend (of-begin (of-served (of-serve (c .before))))))) .pre .0 .few-slots
+
+sooner-requires : tie.Need-sooner-requires
+sooner-requires c κs = search needs
 
 next-event-requires : tie.Need-next-event-requires
 next-event-requires c κs = search needs
@@ -94,16 +106,18 @@ returns : tie.Need-returns
 unfolding board-of hears begins-with serves waiting messages notes
 returns c =
     let o = c .before .before in
-    let t = of-come o in
+    let y = o .before in
+    let t = of-ends y in
     let v = of-serve t in
     let g = of-served v in
     let d = of-begin g in
-    let h = of-attend d in
+    let x = of-attend d in
+    let h = of-changes x in
     let w = of-heard h in
     let s = of-note w in
     let a = s .args in
     let f = s .pre .0 in
-    event-whole (board s) f (a .unmet .now) (at s) (a .stirred .now) (a .due .now) (s .pre .1) (a .wait .now) (a .waitend .now) (s .pre .5) _ _ (d .attend .ensures .1) _ (d .attend .ensures .0) (s .pre .2) _ (v .served .ensures) _ (h .heard .ensures) _ _ (g .begin .ensures .0) (g .begin .ensures .1) _ _ _ _ _ (t .serve .ensures .0) _ _ _ _ (t .serve .ensures .1 .0) (t .serve .ensures .1 .1 .0) (t .serve .ensures .1 .1 .1) _ _ (o .come-after .ensures) (c .next-event .ensures) _ (w .note .ensures)
+    event-whole (board s) f (a .unmet .now) (at s) (a .stirred .now) (a .due .now) (s .pre .1) _ (s .pre .5) _ (x .changes .ensures) (a .wait .now) (a .waitend .now) (s .pre .6) _ _ (d .attend .ensures .1) _ (d .attend .ensures .0) (s .pre .2) _ (v .served .ensures) _ (h .heard .ensures) _ _ (g .begin .ensures .0) (g .begin .ensures .1 .0) _ _ _ _ _ (t .serve .ensures .0) _ _ _ _ (t .serve .ensures .1 .0) (t .serve .ensures .1 .1 .0) (t .serve .ensures .1 .1 .1) _ (g .begin .ensures .1 .1) _ _ _ (y .ends-after .ensures) (o .sooner .ensures) (c .next-event .ensures) _ (w .note .ensures)
 
 pub event-spec : {M : Type 1} → statement M
 event-spec =
@@ -111,10 +125,12 @@ event-spec =
     (tie.spec
     note-requires
     heard-requires
+    changes-requires
     attend-requires
     begin-requires
     served-requires
     serve-requires
-    come-after-requires
+    ends-after-requires
+    sooner-requires
     next-event-requires
     returns)

@@ -1,72 +1,40 @@
--- `event::served` meets its contract: before node n, the node found is that of the nodes below n.
+-- `event::served` meets its contract: where no slot is due there is no node, and elsewhere it is looked up.
 -- Assumes nothing.
-use mathlib.Core.Path.{_≡_, refl, sym, ap, _∙_}
-use mathlib.Core.Bool.{Bool}
-use mathlib.Core.Logic.{⊎-elim}
-use Prim.Native.Nat.{ℕ, _-_, _≤_}
-use native.Mathlib.Numerals.{add-one}
+use mathlib.Core.Path.{_≡_, sym}
+use mathlib.Core.List.{List}
+use Prim.Native.Nat.{ℕ, _≤_, _<_}
 use native.Mathlib.Omega.{arith}
 use lib.Dec.{eqb}
 use lib.ListN.{getD}
-use borrow.Author.Tests.{eq-eqb, ne-eqb}
+use borrow.Author.Tests.{eqb-true}
 use borrow.Author.Needs.{needs}
-use Rattle.lists.specs.Lists.{if_then_else_}
 use Rattle.event.specs.Kept.{served-by}
-use Rattle.serving.proofs.Loops.{when, unless}
+use Rattle.event.proofs.Ahead.{First, found, missing, first-below}
 use Rattle.event.proofs.served.Statement.{statement}
 use Rattle.event.proofs.served.Tie as tie
 
-abbrev Inv-loop : tie.InvT-loop
-Inv-loop due slots u found₀ n₀ found n = (n ≤ 8) × (found ≡ served-by due u slots n)
-
-abbrev μ-loop : tie.MeasureT-loop
-μ-loop due slots u found₀ n₀ found n = 8 - n
-
-loop-holds : tie.Need-loop-holds Inv-loop μ-loop
+-- no slot is due
+none : (due : List ℕ) (u slots : ℕ) → slots ≤ 8 → ((n : ℕ) → n < 8 → getD due n 0 ≡ u → ⊥) → slots ≡ served-by due u slots
 unfolding served-by
-loop-holds c = (omega arith, refl)
+none due u slots l h = at (first-below slots (λ n. eqb (getD due n 0) u))
+  where
+    at : First slots (λ n. eqb (getD due n 0) u) → slots ≡ served-by due u slots
+    at (missing g e) = sym e
+    at (found k m t e) = absurd (h k (omega arith) (eqb-true _ _ t))
 
-mul-if1 : tie.Need-mul-if1 Inv-loop μ-loop
-mul-if1 c = search needs
+any-due-requires : tie.Need-any-due-requires
+any-due-requires c κs = search needs
 
-element-copy-out-if1 : tie.Need-element-copy-out-if1 Inv-loop μ-loop
-element-copy-out-if1 c = search needs
+which-due-requires : tie.Need-which-due-requires
+which-due-requires c κs = search needs
 
-add-n : tie.Need-add-n Inv-loop μ-loop
-add-n c = search needs
+returns : tie.Need-returns
+returns c = search needs
 
-loop-less : tie.Need-loop-less Inv-loop μ-loop
-loop-less c = search needs
-
-loop-again : tie.Need-loop-again Inv-loop μ-loop
-unfolding served-by
-loop-again c =
-    let l = c .before .before .before in
-    let a = l .before .args in
-    let n = l .loop .n in
-    let q : c .if1 .found ≡ (if eqb (getD (a .due .now) n 0) (a .u) then n else l .loop .found) =
-    ⊎-elim (λ w. w .1 ∙ when n (l .loop .found) (eq-eqb _ _ (w .0 .taken))) (λ w. w .1 ∙ unless n (l .loop .found) (ne-eqb _ _ (w .0 .left))) (c .if1 .came) in (
-      omega arith,
-      q ∙ ap (λ (x : ℕ). if eqb (getD (a .due .now) n 0) (a .u) then n else x) (l .loop .inv .1) ∙ ap (served-by (a .due .now) (a .u) (a .slots)) (sym (add-one n)),
-    )
-
-returns : tie.Need-returns Inv-loop μ-loop
-returns c =
-    let l = c .before in
-    let a = l .before .args in
-    let q : l .loop .n ≡ 8 = omega (arith, l .loop .inv .0, c .loop-test .left) in
-    l .loop .inv .1 ∙ ap (served-by (a .due .now) (a .u) (a .slots)) q
+returns-2 : tie.Need-returns-2
+returns-2 c =
+    let s = c .before .before in
+    none (s .args .due .now) (s .args .u) (s .args .slots) (s .pre) (c .before .any-due .ensures (c .if1 .left))
 
 pub served-spec : {M : Type 1} → statement M
-served-spec =
-    tie.close
-    (tie.spec
-    Inv-loop
-    μ-loop
-    loop-holds
-    mul-if1
-    element-copy-out-if1
-    add-n
-    loop-less
-    loop-again
-    returns)
+served-spec = tie.close (tie.spec any-due-requires which-due-requires returns returns-2)

@@ -9,7 +9,7 @@ sub-result : tie.Need-sub-result
 sub-result c = search needs
 
 returns : tie.Need-returns
-returns c = (rw (mask-split (c .args .mask) (c .pre .0) (c .pre .1)), mask-lower (c .args .mask) (c .pre .0) (c .pre .1))
+returns c = (rw (mask-split (c .args .mask) (c .pre .0) (c .pre .1)), mask-lower (c .args .mask) (c .pre .0))
 
 pub without-lowest-spec : {M : Type 1} → statement M
 without-lowest-spec = tie.close (tie.spec sub-result returns)

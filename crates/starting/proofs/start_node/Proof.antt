@@ -1,16 +1,23 @@
--- `starting::start_node` meets its contract: a free node for which something is new starts; a free node for which nothing is new has nothing to
--- start, and it and one that is not free stay as they are.
+-- `starting::start_node` meets its contract: a free node starts, and one that is not free, or is no node, stays as it is.
 -- Assumes nothing.
-use mathlib.Core.Path.{sym, ap}
+use mathlib.Core.Path.{ap}
 use Prim.Native.Nat.{_+_}
 use native.Mathlib.Omega.{arith}
 use lib.ListN.{getD, set}
-use borrow.Author.Tests.{le-leb, lt-leb}
-use Rattle.starting.specs.Starting.{Ends, choice, start-by}
-use Rattle.starting.proofs.Steps.{idle-step}
+use borrow.Author.Tests.{lt-ltb, le-ltb, le-leb, lt-leb}
 use borrow.Author.Needs.{needs}
+use Rattle.starting.specs.Starting.{choice, start-by}
+use Rattle.starting.specs.News.{start-in}
+use Rattle.starting.proofs.Fresh.{soonest-next}
 use Rattle.starting.proofs.start_node.Statement.{statement}
 use Rattle.starting.proofs.start_node.Tie as tie
+
+returns : tie.Need-returns
+unfolding start-in
+returns c =
+    let a = c .before .args in
+    let o = le-ltb (a .n) (a .slots) (c .if1 .taken) in
+    (simp o, (simp o, λ before s. s))
 
 mul-last : tie.Need-mul-last
 mul-last c = search needs
@@ -18,14 +25,14 @@ mul-last c = search needs
 element-copy-out-last : tie.Need-element-copy-out-last
 element-copy-out-last c = search needs
 
-mul-stir : tie.Need-mul-stir
-mul-stir c = search needs
-
-element-copy-out-stir : tie.Need-element-copy-out-stir
-element-copy-out-stir c = search needs
-
-has-news-requires : tie.Need-has-news-requires
-has-news-requires c κs = search needs
+returns-2 : tie.Need-returns-2
+unfolding start-in start-by
+returns-2 c =
+    let i = c .before .before in
+    let a = i .before .args in
+    let o = lt-ltb (a .n) (a .slots) (i .if1 .left) in
+    let w = lt-leb (getD (a .busy .now) (a .n) 0) (a .u) (c .if2 .taken) in
+    (simp (o, w), (simp (o, w), λ before s. s))
 
 mul-a : tie.Need-mul-a
 mul-a c = search needs
@@ -35,7 +42,7 @@ element-copy-out-a c = search needs
 
 cast-a : tie.Need-cast-a
 cast-a c =
-    let s = c .before .before .before .before .before .before in
+    let s = c .before .before .before .before in
     omega (arith, s .pre .4 (s .args .n))
 
 add-b : tie.Need-add-b
@@ -49,12 +56,12 @@ element-copy-out-b c = search needs
 
 cast-b : tie.Need-cast-b
 cast-b c =
-    let s = c .before .before .before .before .before .before .before in
+    let s = c .before .before .before .before .before in
     omega (arith, s .pre .4 (s .args .n + 1))
 
 start-requires : tie.Need-start-requires
 start-requires c κs =
-    let s = c .before .before .before .before .before .before .before .before in
+    let s = c .before .before .before .before .before .before in
     (s .pre .4 (s .args .n + 1), s .pre .1, s .pre .2, s .pre .3, s .pre .5, s .pre .6, s .pre .7)
 
 mul-busy : tie.Need-mul-busy
@@ -63,40 +70,31 @@ mul-busy c = search needs
 element-write-busy : tie.Need-element-write-busy
 element-write-busy c = search needs
 
-returns : tie.Need-returns
-unfolding start-by choice
-returns c =
-    let free = c .before .before .before .before .before .before .before in
-    let a = free .before .before .args in
-    let w = le-leb (getD (a .busy .now) (a .n) 0) (a .u) (omega (arith, free .if1 .taken)) in
-    (simp w (ap (set (a .busy .now) (a .n)) (c .start .ensures .0)), simp w (c .start .ensures .1))
-
-returns-2 : tie.Need-returns-2
-returns-2 c =
-    let s = c .before .before .before .before .before in
-    let a = s .args in
-    let old = c .before .has-news .ensures (c .if2 .left) in
-    let same =
-    idle-step (a .processes) (a .remote .now) (a .from .now) (a .cue .now) (a .unmet .now) (a .run .now) (a .several .now) (a .intofirst .now) (a .into .now) (a .u) (a .turnfirst .now) (a .turn .now) (a .ticks .now) (a .n)
-    (record { busy = a .busy .now; comes = a .comes .now }) (s .pre .8 (omega (arith, c .before .before .before .if1 .taken, old .0)) (λ q. absurd (omega (arith, old .1, q)))) in
-    (ap (λ (z : Ends). z .busy) (sym same), ap (λ (z : Ends). z .comes) (sym same))
+sooner-end-requires : tie.Need-sooner-end-requires
+sooner-end-requires c κs = search needs
 
 returns-3 : tie.Need-returns-3
-unfolding start-by
+unfolding start-in start-by choice
 returns-3 c =
-    let a = c .before .before .args in
-    let w = lt-leb (getD (a .busy .now) (a .n) 0) (a .u) (omega (arith, c .if1 .left)) in
-    (simp w, simp w)
+    let free = c .before .before .before .before .before in
+    let i = free .before .before in
+    let s = i .before in
+    let a = s .args in
+    let e = c .before .start .ensures in
+    let o = lt-ltb (a .n) (a .slots) (i .if1 .left) in
+    let w = le-leb (getD (a .busy .now) (a .n) 0) (a .u) (free .if2 .left) in (
+      simp (o, w) (ap (set (a .busy .now) (a .n)) (e .0)),
+      (simp (o, w) (e .1), λ before z. soonest-next (a .slots) (a .u) before (a .busy .now) (a .first) (a .n) (c .before .start .result) (c .sooner-end .result) (i .if1 .left) (s .pre .0) (free .if2 .left) (c .sooner-end .ensures) z),
+    )
 
 pub start-node-spec : {M : Type 1} → statement M
 start-node-spec =
     tie.close
     (tie.spec
+    returns
     mul-last
     element-copy-out-last
-    mul-stir
-    element-copy-out-stir
-    has-news-requires
+    returns-2
     mul-a
     element-copy-out-a
     cast-a
@@ -107,6 +105,5 @@ start-node-spec =
     start-requires
     mul-busy
     element-write-busy
-    returns
-    returns-2
+    sooner-end-requires
     returns-3)

@@ -1,83 +1,106 @@
--- `starting::starts` meets its contract: before node n, the nodes below n have started one after another, and a node for which nothing is new
--- still has nothing to start.
+-- `starting::starts` meets its contract: the nodes that are left of those for which something is new give the whole answer.
 -- Assumes nothing.
-use mathlib.Core.Path.{_≡_, refl, sym, ap, _∙_, subst}
-use Prim.Native.Nat.{ℕ, _-_, _≤_, _<_}
-use native.Mathlib.Numerals.{add-one}
+use mathlib.Core.Path.{_≡_, refl, sym, ap, _∙_}
+use mathlib.Core.List.{List, _∷_}
+use Prim.Native.Nat.{ℕ, _<_}
 use native.Mathlib.Omega.{arith}
-use lib.ListN.{getD}
-use Rattle.starting.specs.Starting.{Ends, start-by, starts-by}
-use Rattle.starting.specs.Quiet.{Idle}
-use Rattle.starting.proofs.Quiet.{idle-then}
+use lib.ListN.{length, drop}
 use borrow.Author.Needs.{needs}
+use Rattle.mask.specs.Masks.{nodes}
+use Rattle.mask.proofs.Sets.{node-small, nodes-none}
+use Rattle.starting.specs.Starting.{Ends, starts-by}
+use Rattle.starting.specs.News.{start-in, start-each, Soonest}
+use Rattle.starting.proofs.Fresh.{news-start, soonest-none}
 use Rattle.starting.proofs.starts.Statement.{statement}
 use Rattle.starting.proofs.starts.Tie as tie
 
 abbrev Inv-loop : tie.InvT-loop
-Inv-loop processes slots remote from cue unmet run several intofirst into turnfirst turn ticks u stirred busy₀ comes₀ n₀ busy comes n =
-    (n ≤ slots) × (record { busy = busy; comes = comes } ≡ starts-by processes remote from cue unmet run several intofirst into u turnfirst turn ticks n (record { busy = busy₀; comes = comes₀ }))
+Inv-loop processes slots remote from cue unmet run several intofirst into turnfirst turn ticks u stirred busy₀ comes₀ first₀ left₀ busy comes first left =
+    (left < 256)
+    × (start-each processes remote from cue unmet run several intofirst into u turnfirst turn ticks slots (nodes left) (record { busy = busy; comes = comes })
+    ≡ starts-by processes remote from cue unmet run several intofirst into u turnfirst turn ticks slots (record { busy = busy₀; comes = comes₀ }))
+    × (length busy₀ ≡ 8 → Soonest slots u busy₀ busy first)
 
 abbrev μ-loop : tie.MeasureT-loop
-μ-loop processes slots remote from cue unmet run several intofirst into turnfirst turn ticks u stirred busy₀ comes₀ n₀ busy comes n =
-    slots - n
+μ-loop processes slots remote from cue unmet run several intofirst into turnfirst turn ticks u stirred busy₀ comes₀ first₀ left₀ busy comes first left =
+    left
+
+news-requires : tie.Need-news-requires Inv-loop μ-loop
+news-requires c κs = search needs
 
 loop-holds : tie.Need-loop-holds Inv-loop μ-loop
-unfolding starts-by
-loop-holds c = (omega arith, refl)
+loop-holds c =
+    let s = c .before .before in
+    let a = s .args in
+    let z : Ends = record { busy = a .busy .now; comes = a .comes .now } in (
+      c .news .ensures .1,
+      ap (λ (ns : List ℕ). start-each (a .processes) (a .remote .now) (a .from .now) (a .cue .now) (a .unmet .now) (a .run .now) (a .several .now) (a .intofirst .now) (a .into .now) (a .u) (a .turnfirst .now) (a .turn .now) (a .ticks .now) (a .slots) ns z) (c .news .ensures .0)
+          ∙ news-start (a .processes) (a .remote .now) (a .from .now) (a .cue .now) (a .unmet .now) (a .run .now) (a .several .now) (a .intofirst .now) (a .into .now) (a .u) (a .turnfirst .now) (a .turn .now) (a .ticks .now) (a .slots) (a .stirred .now) (a .busy .now) (a .comes .now) (s .pre .5) (s .pre .8) (s .pre .0),
+      soonest-none (a .slots) (a .u) (a .busy .now),
+    )
+
+lowest-node-requires : tie.Need-lowest-node-requires Inv-loop μ-loop
+lowest-node-requires c κs = (omega (arith, c .loop-test .taken), c .before .loop .inv .0)
+
+cast-n : tie.Need-cast-n Inv-loop μ-loop
+cast-n c = search needs
 
 start-node-requires : tie.Need-start-node-requires Inv-loop μ-loop
 start-node-requires c κs =
-    let l = c .before .before .before in
-    let a = l .before .args in
-    let s = l .before .pre in
-    let at = l .loop .inv .1 in (
-      omega (arith, s .0),
-      s .1,
-      s .2,
-      s .3,
-      s .4,
-      s .5,
-      s .6,
-      s .7,
-      subst
-          (λ (e : Ends).
-          getD (e .busy) (l .loop .n) 0 < a .u → (getD (a .stirred .now) (l .loop .n) 0 ≡ a .u → ⊥) →
-          Idle (a .processes) (a .remote .now) (a .from .now) (a .cue .now) (a .unmet .now) (a .run .now) (a .several .now) (a .intofirst .now) (a .into .now) (a .u) (a .turnfirst .now) (a .turn .now) (e .comes) (l .loop .n))
-          (sym at)
-          (idle-then (a .processes) (a .remote .now) (a .from .now) (a .cue .now) (a .unmet .now) (a .run .now) (a .several .now) (a .intofirst .now) (a .into .now) (a .u) (a .turnfirst .now) (a .turn .now) (a .ticks .now) (a .slots) (a .stirred .now) (a .busy .now) (a .comes .now)
-          (s .5) (s .8) (l .loop .n) (omega arith)),
-    )
+    let w = c .before .before in
+    let l = w .before .before in
+    let s = l .before .before .before .pre in
+    (node-small (l .loop .left) (w .lowest-node .result) (w .lowest-node .ensures), s .1, s .2, s .3, s .4, s .5, s .6, s .7)
 
-add-n : tie.Need-add-n Inv-loop μ-loop
-add-n c = search needs
+without-lowest-node-requires : tie.Need-without-lowest-node-requires Inv-loop μ-loop
+without-lowest-node-requires c κs =
+    let i = c .before .before .before .before in
+    (omega (arith, i .loop-test .taken), i .before .loop .inv .0)
 
 loop-less : tie.Need-loop-less Inv-loop μ-loop
-loop-less c = search needs
+loop-less c = omega (arith, c .without-lowest-node .ensures .1)
 
 loop-again : tie.Need-loop-again Inv-loop μ-loop
-unfolding starts-by
+unfolding start-each
 loop-again c =
-    let l = c .before .before .before .before in
-    let a = l .before .args in
-    let e = c .start-node .ensures in
-    let go = start-by (a .processes) (a .remote .now) (a .from .now) (a .cue .now) (a .unmet .now) (a .run .now) (a .several .now) (a .intofirst .now) (a .into .now) (a .u) (a .turnfirst .now) (a .turn .now) (a .ticks .now) in
-    let all = starts-by (a .processes) (a .remote .now) (a .from .now) (a .cue .now) (a .unmet .now) (a .run .now) (a .several .now) (a .intofirst .now) (a .into .now) (a .u) (a .turnfirst .now) (a .turn .now) (a .ticks .now) in (
-      omega arith,
-      (λ i. record { busy = e .0 i; comes = e .1 i })
-          ∙ ap (go (l .loop .n)) (l .loop .inv .1)
-          ∙ ap (λ (k : ℕ). all k (record { busy = a .busy .now; comes = a .comes .now })) (sym (add-one (l .loop .n))),
+    let b = c .before in
+    let w = b .before .before .before in
+    let l = w .before .before in
+    let a = l .before .before .before .args in
+    let m = l .loop .left in
+    let e = b .start-node .ensures in
+    let each = start-each (a .processes) (a .remote .now) (a .from .now) (a .cue .now) (a .unmet .now) (a .run .now) (a .several .now) (a .intofirst .now) (a .into .now) (a .u) (a .turnfirst .now) (a .turn .now) (a .ticks .now) (a .slots) in
+    let one = start-in (a .processes) (a .remote .now) (a .from .now) (a .cue .now) (a .unmet .now) (a .run .now) (a .several .now) (a .intofirst .now) (a .into .now) (a .u) (a .turnfirst .now) (a .turn .now) (a .ticks .now) (a .slots) (w .lowest-node .result) in
+    let z : Ends = record { busy = l .loop .busy; comes = l .loop .comes } in (
+      omega (arith, c .without-lowest-node .ensures .1, l .loop .inv .0),
+      (λ i. each (c .without-lowest-node .ensures .0 i) (record { busy = e .0 i; comes = e .1 .0 i }))
+          ∙ ap (λ (ns : List ℕ). each ns z) (sym (w .lowest-node .ensures))
+          ∙ l .loop .inv .1,
+      λ h. e .1 .1 (a .busy .now) (l .loop .inv .2 h),
     )
 
 returns : tie.Need-returns Inv-loop μ-loop
+unfolding start-each
 returns c =
     let l = c .before in
-    let a = l .before .args in
-    let all = starts-by (a .processes) (a .remote .now) (a .from .now) (a .cue .now) (a .unmet .now) (a .run .now) (a .several .now) (a .intofirst .now) (a .into .now) (a .u) (a .turnfirst .now) (a .turn .now) (a .ticks .now) in
-    let q : l .loop .n ≡ a .slots = omega (arith, l .loop .inv .0, c .loop-test .left) in
-    let e = l .loop .inv .1 ∙ ap (λ (k : ℕ). all k (record { busy = a .busy .now; comes = a .comes .now })) q in
-    (ap (λ (s : Ends). s .busy) e, ap (λ (s : Ends). s .comes) e)
+    let a = l .before .before .before .args in
+    let z : Ends = record { busy = l .loop .busy; comes = l .loop .comes } in
+    let q : l .loop .left ≡ 0 = omega (arith, c .loop-test .left) in
+    let e = ap (λ (ns : List ℕ). start-each (a .processes) (a .remote .now) (a .from .now) (a .cue .now) (a .unmet .now) (a .run .now) (a .several .now) (a .intofirst .now) (a .into .now) (a .u) (a .turnfirst .now) (a .turn .now) (a .ticks .now) (a .slots) ns z) (sym (ap nodes q ∙ nodes-none)) ∙ l .loop .inv .1 in
+    (ap (λ (s : Ends). s .busy) e, (ap (λ (s : Ends). s .comes) e, l .loop .inv .2))
 
 pub starts-spec : {M : Type 1} → statement M
 starts-spec =
     tie.close
-    (tie.spec Inv-loop μ-loop loop-holds start-node-requires add-n loop-less loop-again returns)
+    (tie.spec
+    Inv-loop
+    μ-loop
+    news-requires
+    loop-holds
+    lowest-node-requires
+    cast-n
+    start-node-requires
+    without-lowest-node-requires
+    loop-less
+    loop-again
+    returns)

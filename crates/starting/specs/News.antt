@@ -1,0 +1,34 @@
+-- The nodes for which something is new at a clock start one after another, and which of the processes that start ends first.
+-- Assumes nothing.
+use Prim.Native.Nat.{ℕ, _≤_, _<_}
+use mathlib.Core.Path.{_≡_}
+use mathlib.Core.Logic.{_⊎_}
+use mathlib.Core.Bool.{Bool, _||_}
+use mathlib.Core.List.{List, [], _∷_}
+use lib.Dec.{eqb, ltb}
+use lib.ListN.{length, getD}
+use Rattle.lists.specs.Lists.{if_then_else_}
+use Rattle.starting.specs.Starting.{Ends, start-by}
+
+-- an item arrives at node n at the clock, or its last process ends
+unfoldable pub new-at : List ℕ → List ℕ → ℕ → ℕ → Bool
+new-at stirred busy u n = eqb (getD stirred n 0) u || eqb (getD busy n 0) u
+
+module _ (processes : ℕ) (remote from cue unmet run several intofirst into : List ℕ) (u : ℕ) (turnfirst turn ticks : List ℕ) (slots : ℕ) where
+  -- a number starts, if it is that of a node; and the numbers of a list, one after another
+  unfoldable pub start-in : ℕ → Ends → Ends
+  start-in n s = if ltb n slots then start-by processes remote from cue unmet run several intofirst into u turnfirst turn ticks n s else s
+
+  unfoldable pub start-each : List ℕ → Ends → Ends
+  start-each [] s = s
+  start-each (n ∷ ns) s = start-each ns (start-in n s)
+
+-- the answer where no process starts
+abbrev pub no-end : ℕ
+no-end = 2000000000
+
+-- `first` is the end of the process that ends first of those that have started since the nodes' last processes ended at `before`.
+pub record Soonest (slots u : ℕ) (before busy : List ℕ) (first : ℕ) : Type 0 where
+  pub long : length busy ≡ 8
+  pub most : (n : ℕ) → n < slots → u < getD busy n 0 → (getD busy n 0 ≡ getD before n 0) ⊎ (first ≤ getD busy n 0)
+  pub one : (first ≡ no-end) ⊎ ((n : ℕ) × (n < slots) × (u < first) × (first ≡ getD busy n 0))
