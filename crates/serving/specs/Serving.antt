@@ -4,7 +4,7 @@
 use Prim.Native.Nat.{ℕ, zero, suc, _+_, _-_}
 use mathlib.Core.Bool.{Bool, _||_}
 use mathlib.Core.List.{List, [], _∷_}
-use lib.Dec.{eqb}
+use lib.Dec.{eqb, ltb}
 use lib.ListN.{getD, set}
 use Rattle.lists.specs.Lists.{if_then_else_}
 use Rattle.timetable.specs.Bus.{beginning-at}
@@ -57,6 +57,10 @@ module _ (told u : ℕ) (pending : ℕ → Bool) (busy : List ℕ) (round : ℕ)
   unfoldable pub attend-below : ℕ → List ℕ → List ℕ
   attend-below zero due = due
   attend-below (suc n) due = attend-node n (attend-below n due)
+
+  -- a number is looked up, if it is that of a node
+  unfoldable pub attend-in : ℕ → ℕ → List ℕ → List ℕ
+  attend-in slots n due = if ltb n slots then attend-node n due else due
 
   -- where no row is over at the clock, nothing is
   unfoldable pub attend-by : ℕ → ℕ → List ℕ → List ℕ

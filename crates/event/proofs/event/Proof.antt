@@ -3,7 +3,7 @@
 use borrow.Author.Needs.{needs}
 use Rattle.board.specs.declared.Board.{Board}
 use Rattle.event.specs.Course.{Moment, moment, hears, begins-with, serves, waiting, notes, board-of}
-use Rattle.event.proofs.Keeping.{quiet, node-low, rows-room, event-on, ending-on}
+use Rattle.event.proofs.Keeping.{not-looked, quiet, node-low, rows-room, event-on, ending-on}
 use Rattle.event.proofs.event.Statement.{statement}
 use Rattle.event.proofs.event.Tie as tie
 
@@ -28,11 +28,14 @@ of-heard c = c .before .before .before
 abbrev of-changes : tie.After-changes → tie.After-heard
 of-changes c = c .before
 
-abbrev of-attend : tie.After-attend → tie.After-changes
+abbrev of-new : tie.After-new-nodes → tie.After-changes
+of-new c = c .before .before .before
+
+abbrev of-attend : tie.After-attend → tie.After-new-nodes
 of-attend c = c .before .before .before .before
 
 abbrev of-begin : tie.After-begin → tie.After-attend
-of-begin c = c .before .before .before .before .before
+of-begin c = c .before .before .before .before
 
 abbrev of-served : tie.After-served → tie.After-begin
 of-served c = c .before .before
@@ -58,41 +61,48 @@ heard-requires c κs =
 changes-requires : tie.Need-changes-requires
 changes-requires c κs = search needs
 
+new-nodes-requires : tie.Need-new-nodes-requires
+new-nodes-requires c κs = search needs
+
 attend-requires : tie.Need-attend-requires
 unfolding board-of
 attend-requires c κs =
-    let s = of-note (of-heard (of-changes (c .before .before .before))) in
+    let y = c .before .before .before in
+    let s = of-note (of-heard (of-changes (of-new y))) in
+    let a = s .args in
     let f = s .pre .0 in
-    (f .few-slots, f .few-processes, f .few-rows, f .few-conditions, f .deciders, f .within-queue, f .queue-firsts, f .round-one, f .round-most, f .offset-most, s .pre .1 .from-one, s .pre .2)
+    (f .few-slots, f .few-processes, f .few-rows, f .few-conditions, f .deciders, f .within-queue, f .queue-firsts, f .round-one, f .round-most, f .offset-most, s .pre .1 .from-one, s .pre .2, y .new-nodes .ensures .0, not-looked (board s) f (a .unmet .now) (at s) (a .stirred .now) (a .due .now) (s .pre .1) _ (y .new-nodes .ensures .1))
 
 begin-requires : tie.Need-begin-requires
 unfolding board-of hears
 begin-requires c κs =
-    let h = of-changes (of-attend (c .before .before .before .before)) in
+    let y = of-attend (c .before .before .before) in
+    let h = of-changes (of-new y) in
     let s = of-note (of-heard h) in
     let a = s .args in
     let f = s .pre .0 in
-    (f .few-slots, f .few-processes, f .into-firsts, f .within-into, f .turn-firsts, f .turn-members, s .pre .2, f .ticks-small, quiet (board s) f (a .unmet .now) (at s) (a .stirred .now) (a .due .now) (s .pre .1) _ (h .heard .ensures))
+    (f .few-slots, f .few-processes, f .into-firsts, f .within-into, f .turn-firsts, f .turn-members, s .pre .2, f .ticks-small, y .new-nodes .ensures .0, quiet (board s) f (a .unmet .now) (at s) (a .stirred .now) (a .due .now) (s .pre .1) _ (h .heard .ensures) _ (y .new-nodes .ensures .1))
 
 served-requires : tie.Need-served-requires
 unfolding board-of
-served-requires c κs = of-note (of-heard (of-changes (of-attend (of-begin (c .before))))) .pre .0 .few-slots
+served-requires c κs = of-note (of-heard (of-changes (of-new (of-attend (of-begin (c .before)))))) .pre .0 .few-slots
 
 serve-requires : tie.Need-serve-requires
 unfolding board-of hears begins-with waiting
 serve-requires c κs =
     let v = c .before .before .before .before .before in
     let d = of-begin (of-served v) in
-    let x = of-attend d in
+    let y = of-attend d in
+    let x = of-new y in
     let h = of-changes x in
     let s = of-note (of-heard h) in
     let a = s .args in
     let f = s .pre .0 in
-    (f .few-processes, f .few-rows, f .few-conditions, f .few-slots, node-low (board s) f (a .unmet .now) (at s) (a .stirred .now) (a .due .now) (s .pre .1) _ (s .pre .5) _ (x .changes .ensures) _ (d .attend .ensures) (s .pre .2) _ (v .served .ensures), f .deciders, f .within-queue, f .queue-firsts, f .round-one, f .round-most, f .offset-most, s .pre .2, f .lasts-small, s .pre .3, λ e n m. f .queue-own _ e n m .2, f .remote-most, f .lasts-one, λ e n m. f .remote-row e (f .queue-own _ e n m .2), rows-room (board s) f (a .unmet .now) (at s) (a .stirred .now) (a .due .now) (s .pre .1) _ (s .pre .5) _ (x .changes .ensures) _ (d .attend .ensures) (s .pre .2) _ (v .served .ensures) _ (h .heard .ensures) _ _ (of-served v .begin .ensures .0) (of-served v .begin .ensures .1 .0))
+    (f .few-processes, f .few-rows, f .few-conditions, f .few-slots, node-low (board s) f (a .unmet .now) (at s) (a .stirred .now) (a .due .now) (s .pre .1) _ (y .new-nodes .ensures .1) _ (s .pre .5) _ (x .changes .ensures) _ (d .attend .ensures) (s .pre .2) _ (v .served .ensures), f .deciders, f .within-queue, f .queue-firsts, f .round-one, f .round-most, f .offset-most, s .pre .2, f .lasts-small, s .pre .3, λ e n m. f .queue-own _ e n m .2, f .remote-most, f .lasts-one, λ e n m. f .remote-row e (f .queue-own _ e n m .2), rows-room (board s) f (a .unmet .now) (at s) (a .stirred .now) (a .due .now) (s .pre .1) _ (y .new-nodes .ensures .1) _ (s .pre .5) _ (x .changes .ensures) _ (d .attend .ensures) (s .pre .2) _ (v .served .ensures) _ (h .heard .ensures) _ _ (of-served v .begin .ensures .0) (of-served v .begin .ensures .1 .0))
 
 ends-after-requires : tie.Need-ends-after-requires
 unfolding board-of
-ends-after-requires c κs = of-note (of-heard (of-changes (of-attend (of-begin (of-served (of-serve (c .before))))))) .pre .0 .few-slots
+ends-after-requires c κs = of-note (of-heard (of-changes (of-new (of-attend (of-begin (of-served (of-serve (c .before)))))))) .pre .0 .few-slots
 
 sooner-requires : tie.Need-sooner-requires
 sooner-requires c κs = search needs
@@ -104,20 +114,21 @@ returns : tie.Need-returns
 unfolding board-of hears begins-with serves waiting notes
 returns c =
     let o = c .before .before in
-    let y = o .before in
-    let t = of-ends y in
+    let q = o .before in
+    let t = of-ends q in
     let v = of-serve t in
     let g = of-served v in
     let d = of-begin g in
-    let x = of-attend d in
+    let y = of-attend d in
+    let x = of-new y in
     let h = of-changes x in
     let w = of-heard h in
     let s = of-note w in
     let a = s .args in
     let e =
-    event-on (board s) (s .pre .0) (a .unmet .now) (at s) (a .stirred .now) (a .due .now) (s .pre .1) _ (s .pre .5) _ (x .changes .ensures) _ (d .attend .ensures) (s .pre .2) _ (v .served .ensures) _ (h .heard .ensures) _ _ (g .begin .ensures .0) (g .begin .ensures .1 .0) _ _ _ _ _ (t .serve .ensures .0) _ _ (t .serve .ensures .1 .0) (t .serve .ensures .1 .1) _ (g .begin .ensures .1 .1) _ _ _ (y .ends-after .ensures) (o .sooner .ensures) (c .next-event .ensures) _ (w .note .ensures) in
+    event-on (board s) (s .pre .0) (a .unmet .now) (at s) (a .stirred .now) (a .due .now) (s .pre .1) _ (y .new-nodes .ensures .1) _ (s .pre .5) _ (x .changes .ensures) _ (d .attend .ensures) (s .pre .2) _ (v .served .ensures) _ (h .heard .ensures) _ _ (g .begin .ensures .0) (g .begin .ensures .1 .0) _ _ _ _ _ (t .serve .ensures .0) _ _ (t .serve .ensures .1 .0) (t .serve .ensures .1 .1) _ (g .begin .ensures .1 .1) _ _ _ (q .ends-after .ensures) (o .sooner .ensures) (c .next-event .ensures) _ (w .note .ensures) in
     let z =
-    ending-on (board s) (s .pre .0) (a .unmet .now) (at s) (a .stirred .now) (a .due .now) (s .pre .1) _ (s .pre .5) _ (x .changes .ensures) _ (d .attend .ensures) (s .pre .2) _ (v .served .ensures) _ (h .heard .ensures) _ _ (g .begin .ensures .0) (g .begin .ensures .1 .0) _ _ _ _ _ (t .serve .ensures .0) _ _ (t .serve .ensures .1 .0) (t .serve .ensures .1 .1) _ (g .begin .ensures .1 .1) _ _ _ (y .ends-after .ensures) (o .sooner .ensures) (c .next-event .ensures) in
+    ending-on (board s) (s .pre .0) (a .unmet .now) (at s) (a .stirred .now) (a .due .now) (s .pre .1) _ (y .new-nodes .ensures .1) _ (s .pre .5) _ (x .changes .ensures) _ (d .attend .ensures) (s .pre .2) _ (v .served .ensures) _ (h .heard .ensures) _ _ (g .begin .ensures .0) (g .begin .ensures .1 .0) _ _ _ _ _ (t .serve .ensures .0) _ _ (t .serve .ensures .1 .0) (t .serve .ensures .1 .1) _ (g .begin .ensures .1 .1) _ _ _ (q .ends-after .ensures) (o .sooner .ensures) (c .next-event .ensures) in
     (e .0, (e .1, z))
 
 pub event-spec : {M : Type 1} → statement M
@@ -127,6 +138,7 @@ event-spec =
     note-requires
     heard-requires
     changes-requires
+    new-nodes-requires
     attend-requires
     begin-requires
     served-requires
