@@ -11,13 +11,14 @@ use lib.ListN.{length, getD, set, replicate, length-set, length-replicate}
 use lib.Seq.{getD-set-other}
 use borrow.Author.Tests.{eqb-true, eqb-false, eq-eqb, ne-eqb, leb-true, leb-false}
 use Rattle.lists.specs.Lists.{if_then_else_}
-use Rattle.lists.proofs.Tests.{two, neither}
+use Rattle.lists.proofs.Tests.{two, clash, neither, or-left, or-right}
 use Rattle.lists.proofs.Fill.{each-at, zeros-at}
+use Rattle.model.specs.Listing.{bit}
 use Rattle.readiness.specs.Reading.{came-by, part, edges-into}
 use Rattle.timetable.specs.Bus.{beginning-at}
 use Rattle.starting.specs.Starting.{Ends, starts-by}
 use Rattle.starting.specs.Quiet.{Idle, Quiet}
-use Rattle.starting.specs.News.{Soonest}
+use Rattle.starting.specs.News.{new-at, Soonest}
 use Rattle.starting.proofs.Quiet.{Alike, idle-stays, starts-idle}
 use Rattle.starting.proofs.Ends.{set-there}
 use Rattle.packing.proofs.Left.{placed-row}
@@ -121,12 +122,28 @@ module _ (b : Board) (f : Fits b) (unmet : List ℕ) where
     unfolding hears heard-by
     run-stays run q n l d = q ∙ rw (ne-eqb (m .told) (m .u) (λ e. d (told-now n l e))) refl
 
+    -- a node that is not in the mask of those for which something is new: no item arrives at it, and its last process does not end now
+    module _ (new : ℕ) (new-is : m .come ≡ m .u → (n : ℕ) → n < 8 → bit new n ≡ new-at stirred (m .busy) (m .u) n) where
+      old : (n : ℕ) → n < b .slots → bit new n ≡ false → (getD stirred n 0 ≡ m .u → ⊥) × (getD (m .busy) n 0 ≡ m .u → ⊥)
+      unfolding new-at
+      old n l e = (
+        λ q. clash (new-is (k .stirred-over n l q) n (omega (arith, f .few-slots)) ∙ or-left _ _ (eq-eqb _ _ q)) e,
+        λ q. clash (new-is (k .end-over n l q) n (omega (arith, f .few-slots)) ∙ or-right (eqb (getD stirred n 0) (m .u)) _ (eq-eqb _ _ q)) e,
+      )
+
+      pub not-looked : (n : ℕ) → n < b .slots → bit new n ≡ false → (m .told ≡ m .u → ⊥) × (getD (m .busy) n 0 ≡ m .u → ⊥)
+      not-looked n l e = (λ q. old n l e .0 (told-now n l q), old n l e .1)
+
     -- nodes for which nothing is new have no start
     module _ (run : List ℕ) (run-is : run ≡ hears b unmet m) where
-      pub quiet : Quiet (b .processes) (b .slots) (b .remote) (b .from) (b .cue) unmet run (b .several) (b .intofirst) (b .into) (b .turnfirst) (b .turn) (b .ticks) (m .u) stirred (m .busy) (m .comes)
-      quiet =
+      idle-still : (n : ℕ) → n < b .slots → getD (m .busy) n 0 < m .u → (getD stirred n 0 ≡ m .u → ⊥) → idle-by run (m .u) (m .comes) n
+      idle-still n l free calm = subst (λ (r : List ℕ). idle-by r (m .u) (m .comes) n) (sym (run-stays run run-is n l calm)) (k .idle n l free calm)
+
+      pub quiet : (new : ℕ) → (m .come ≡ m .u → (n : ℕ) → n < 8 → bit new n ≡ new-at stirred (m .busy) (m .u) n) →
+          Quiet (b .processes) (b .slots) (b .remote) (b .from) (b .cue) unmet run (b .several) (b .intofirst) (b .into) (b .turnfirst) (b .turn) (b .ticks) (m .u) new (m .busy) (m .comes)
+      quiet new new-is =
           record {
-            idle = λ n l free calm. subst (λ (r : List ℕ). idle-by r (m .u) (m .comes) n) (sym (run-stays run run-is n l calm)) (k .idle n l free calm);
+            idle = λ n l e free. let d = old new new-is n l e in idle-still n l (omega (arith, free, d .1)) (d .0);
             members = λ n j l lo hi. f .turn-own n j l lo hi .0;
             own = λ n p j i l o lo hi lp hp q. sym (f .turn-own n j l lo hi .1) ∙ ap (λ (z : ℕ). getD (b .node) z 0) q ∙ f .turn-own p i o lp hp .1;
             ticks-one = f .ticks-one;
@@ -146,7 +163,7 @@ module _ (b : Board) (f : Fits b) (unmet : List ℕ) where
             by i l (inl c) = a .all (eqb-true _ _ e) .looked i l c
             by i l (inr c) =
                 let n = neither (eqb (m .told) (m .u)) (eqb (getD (m .busy) i 0) (m .u)) c in
-                a .all (eqb-true _ _ e) .kept i l (inr c) (messages b unmet (m .comes) (m .u) i) (h .waits i l (eqb-false _ _ (n .0)) (eqb-false _ _ (n .1)))
+                a .all (eqb-true _ _ e) .kept i l c (messages b unmet (m .comes) (m .u) i) (h .waits i l (eqb-false _ _ (n .0)) (eqb-false _ _ (n .1)))
         at (inr e) =
             let d = unchanged (b .slots) (m .u) (m .busy) ends ending (m .told) (λ q. eqb-false _ _ e (look-is ∙ q)) in
             let q = a .none (eqb-false _ _ e) in (
@@ -158,7 +175,7 @@ module _ (b : Board) (f : Fits b) (unmet : List ℕ) where
             )
 
     -- what is looked at as the event begins
-    module _ (ends : ℕ) (ending : Ending (b .slots) (m .u) (m .busy) ends) (look : ℕ) (look-is : look ≡ changes-at (m .told) ends (m .u))
+    module _ (new : ℕ) (new-is : m .come ≡ m .u → (n : ℕ) → n < 8 → bit new n ≡ new-at stirred (m .busy) (m .u) n) (ends : ℕ) (ending : Ending (b .slots) (m .u) (m .busy) ends) (look : ℕ) (look-is : look ≡ changes-at (m .told) ends (m .u))
         (due₁ : List ℕ) (attend-is : due₁ ≡ attend-by (m .told) (m .u) (waiting b unmet (m .comes) (m .u)) (m .busy) (b .round) (b .offset) look (b .slots) due) where
       abbrev due-now : ℕ → ℕ
       due-now i = due-from (b .round) (getD (b .offset) i 0) (m .u - 1) (pend i)
@@ -832,8 +849,8 @@ module _ (b : Board) (f : Fits b) (unmet : List ℕ) where
                 idle-now true e q i l h =
                     idle-on rows i l item-grown process-row
                     (subst (λ (xs : List ℕ). idle-by run (m .u) xs i) (sym (ap (λ (s : Ends). s .comes) q))
-                    (starts-idle (b .processes) (b .remote) (b .from) (b .cue) unmet run (b .several) (b .intofirst) (b .into) (m .u) (b .turnfirst) (b .turn) (b .ticks) (b .slots) stirred (m .busy) (m .comes)
-                    (f .turn-members) (quiet run run-is) (omega (arith, k .busy-long, f .few-slots)) i l (omega (arith, ap (λ (s : Ends). getD (s .busy) i 0) q))))
+                    (starts-idle (b .processes) (b .remote) (b .from) (b .cue) unmet run (b .several) (b .intofirst) (b .into) (m .u) (b .turnfirst) (b .turn) (b .ticks) (b .slots) new (m .busy) (m .comes)
+                    (f .turn-members) (quiet run run-is new new-is) (omega (arith, k .busy-long, f .few-slots)) i l (omega (arith, ap (λ (s : Ends). getD (s .busy) i 0) q))))
                 idle-now false e q i l h =
                     let d : m .come ≡ m .u → ⊥ = eqb-false _ _ e in
                     let calm : getD stirred i 0 ≡ m .u → ⊥ = λ z. d (k .stirred-over i l z) in
@@ -841,7 +858,7 @@ module _ (b : Board) (f : Fits b) (unmet : List ℕ) where
                     let over : getD (m .busy) i 0 ≡ m .u → ⊥ = λ z. d (k .end-over i l z) in
                     let free : getD (m .busy) i 0 < m .u = omega (arith, h, same, over) in
                     idle-on rows i l item-grown process-row
-                    (subst (λ (xs : List ℕ). idle-by run (m .u) xs i) (sym (ap (λ (s : Ends). s .comes) q)) (quiet run run-is .idle i l free calm))
+                    (subst (λ (xs : List ℕ). idle-by run (m .u) xs i) (sym (ap (λ (s : Ends). s .comes) q)) (idle-still run run-is i l free calm))
 
                 -- a slot with an item pending does not begin before the next event
                 due-still : (i : ℕ) → i < b .slots → (c : Bool) → waiting b unmet comes (m .u) i ≡ c → due-from (b .round) (getD (b .offset) i 0) (m .u) c ≡ due-from (b .round) (getD (b .offset) i 0) (u - 1) c

@@ -12,7 +12,8 @@ use borrow.Author.Tests.{eqb-true, eqb-false, ne-eqb}
 use Rattle.lists.specs.Lists.{if_then_else_}
 use Rattle.lists.proofs.Tests.{two}
 use Rattle.readiness.specs.Reading.{part}
-use Rattle.starting.specs.News.{Soonest}
+use Rattle.model.specs.Listing.{bit}
+use Rattle.starting.specs.News.{new-at, Soonest}
 use Rattle.packing.specs.Packing.{stir-by}
 use Rattle.board.specs.declared.Board.{Board}
 use Rattle.serving.specs.Serving.{Bus, bus, taken-in, fill-with, left-with, stir-with, fill-by, due-from, attend-by, Waiting, Roomy, Attended-all, Served}
@@ -23,7 +24,7 @@ use Rattle.event.proofs.Keeping.{queued-now, node-low, rows-room, wait-
 use Rattle.event.proofs.Queue.{chosen-same, fill-same, short-same, left-same, stir-same, message-small, message-remote, served-roomy, served-own, served-other}
 
 module _ (b : Board) (f : Fits b) (unmet : List ℕ) (m : Moment) (stirred due : List ℕ) (k : Kept b unmet m stirred due)
-    (ends : ℕ) (ending : Ending (b .slots) (m .u) (m .busy) ends) (look : ℕ) (look-is : look ≡ changes-at (m .told) ends (m .u)) (wait waitend : List ℕ) (queued : Queued b unmet m wait waitend)
+    (new : ℕ) (new-is : m .come ≡ m .u → (n : ℕ) → n < 8 → bit new n ≡ new-at stirred (m .busy) (m .u) n) (ends : ℕ) (ending : Ending (b .slots) (m .u) (m .busy) ends) (look : ℕ) (look-is : look ≡ changes-at (m .told) ends (m .u)) (wait waitend : List ℕ) (queued : Queued b unmet m wait waitend)
     (wait₁ waitend₁ : List ℕ) (attended : Attended-all (m .told) (m .u) look (b .slots) (m .busy) (b .queuefirst) (messages b unmet (m .comes) (m .u)) wait waitend wait₁ waitend₁)
     (due₁ : List ℕ) (attend-is : due₁ ≡ attend-by (m .told) (m .u) (waiting b unmet (m .comes) (m .u)) (m .busy) (b .round) (b .offset) look (b .slots) due)
     (low : m .u ≤ last-event) (n : ℕ) (served-is : n ≡ served-by due₁ (m .u) (b .slots)) where
@@ -41,17 +42,17 @@ module _ (b : Board) (f : Fits b) (unmet : List ℕ) (m : Moment) (stirred due :
   remote-now o e w = message-remote b f unmet (m .comes) (m .u) n o e (subst (λ (xs : List ℕ). In e xs) (waits-now n o .holds) w)
 
   node-in : n ≤ b .slots
-  node-in = node-low b f unmet m stirred due k ends ending look look-is due₁ attend-is low n served-is
+  node-in = node-low b f unmet m stirred due k new new-is ends ending look look-is due₁ attend-is low n served-is
 
   module _ (run : List ℕ) (run-is : run ≡ hears b unmet m) (busy rows : List ℕ) (busy-is : busy ≡ begins-with b unmet run m .busy) (rows-is : rows ≡ begins-with b unmet run m .comes) where
     abbrev before : Bus
     before = bus (m .flight) (m .told) rows (m .place) (m .passed)
 
     long : b .tell + b .conditions ≤ length rows
-    long = rows-room b f unmet m stirred due k ends ending look look-is due₁ attend-is low n served-is run run-is busy rows busy-is rows-is
+    long = rows-room b f unmet m stirred due k new new-is ends ending look look-is due₁ attend-is low n served-is run run-is busy rows busy-is rows-is
 
     ws-is : n < b .slots → ws ≡ messages b unmet rows (m .u) n
-    ws-is o = waits-now n o .holds ∙ sym (wait-rows b f unmet m stirred due k ends ending look look-is due₁ attend-is low n served-is run run-is busy rows busy-is rows-is n)
+    ws-is o = waits-now n o .holds ∙ sym (wait-rows b f unmet m stirred due k new new-is ends ending look look-is due₁ attend-is low n served-is run run-is busy rows busy-is rows-is n)
 
     module _ (flight heard : ℕ) (comes place passed : List ℕ)
         (list-is : bus flight heard comes place passed ≡ (if eqb n (b .slots) then before else fill-with (b .processes) (b .tell) (b .conditions) (b .decider) (b .node) (b .bytes) (b .lasts) (b .rooms) n (m .u) ws before)) where
@@ -88,7 +89,7 @@ module _ (b : Board) (f : Fits b) (unmet : List ℕ) (m : Moment) (stirred due :
             ∙ chosen-same n (b .slots) stirred (stir-with (b .processes) (b .tell) (b .conditions) (b .decider) (b .node) (b .bytes) (b .lasts) (b .rooms) n (m .u) (b .remote) (b .slots) ws rows (m .place) stirred) _ node-in
             (λ o.
             stir-same b f unmet n (m .u) (m .flight) (m .told) rows (m .place) (m .passed) o long ws (ws-is o) (bus flight heard comes place passed) (left-is o) stirred
-            (rows-arrived b f unmet m stirred due k ends ending look look-is due₁ attend-is low n served-is run run-is busy rows busy-is rows-is o) (told-arrived b f unmet m stirred due k ends ending look look-is due₁ attend-is low n served-is run run-is busy rows busy-is rows-is o))
+            (rows-arrived b f unmet m stirred due k new new-is ends ending look look-is due₁ attend-is low n served-is run run-is busy rows busy-is rows-is o) (told-arrived b f unmet m stirred due k new new-is ends ending look look-is due₁ attend-is low n served-is run run-is busy rows busy-is rows-is o))
 
         due-is : due₂ ≡ (if eqb n (b .slots) then due₁ else set due₁ n (due-from (b .round) (getD (b .offset) n 0) (m .u) (waiting b unmet comes (m .u) n)))
         due-is =
@@ -109,13 +110,13 @@ module _ (b : Board) (f : Fits b) (unmet : List ℕ) (m : Moment) (stirred due :
                 (subst (Waiting (b .queuefirst) wait₂ waitend₂ n) (left-messages o) (served-own b f n left wait₁ waitend₁ wait₂ waitend₂ node-in served roomy-now o))
             at (inr e) =
                 let d : i ≡ n → ⊥ = eqb-false i n e in
-                subst (Waiting (b .queuefirst) wait₂ waitend₂ i) (sym (wait-comes b f unmet m stirred due k ends ending look look-is due₁ attend-is low n served-is run run-is busy rows busy-is rows-is flight heard comes place passed bus-is i l d))
+                subst (Waiting (b .queuefirst) wait₂ waitend₂ i) (sym (wait-comes b f unmet m stirred due k new new-is ends ending look look-is due₁ attend-is low n served-is run run-is busy rows busy-is rows-is flight heard comes place passed bus-is i l d))
                 (served-other b f n left wait₁ waitend₁ wait₂ waitend₂ node-in served i l d (messages b unmet (m .comes) (m .u) i) (waits-now i l))
 
         pub event-whole :
             (_≡_ {A = Moment} (moment u come flight heard run busy comes place passed noted) (next b unmet m))
             × (Kept b unmet (moment u come flight heard run busy comes place passed noted) stirred₁ due₂ × (Ending (b .slots) u busy ends₁ × Queued b unmet (moment u come flight heard run busy comes place passed noted) wait₂ waitend₂))
         event-whole =
-            let on = event-on b f unmet m stirred due k ends ending look look-is due₁ attend-is low n served-is run run-is busy rows busy-is rows-is flight heard comes place passed bus-is stirred₁ due₂ stirred-is due-is first soonest ends₁ come u ends-is come-is u-is noted noted-is in
-            let after = ending-on b f unmet m stirred due k ends ending look look-is due₁ attend-is low n served-is run run-is busy rows busy-is rows-is flight heard comes place passed bus-is stirred₁ due₂ stirred-is due-is first soonest ends₁ come u ends-is come-is u-is in
-            (on .0, (on .1, (after, queued-next b f unmet m stirred due k ends ending look look-is due₁ attend-is low n served-is run run-is busy rows busy-is rows-is flight heard comes place passed bus-is stirred₁ due₂ stirred-is due-is first soonest ends₁ come u ends-is come-is u-is place passed noted wait₂ waitend₂ roomy-then waits-then)))
+            let on = event-on b f unmet m stirred due k new new-is ends ending look look-is due₁ attend-is low n served-is run run-is busy rows busy-is rows-is flight heard comes place passed bus-is stirred₁ due₂ stirred-is due-is first soonest ends₁ come u ends-is come-is u-is noted noted-is in
+            let after = ending-on b f unmet m stirred due k new new-is ends ending look look-is due₁ attend-is low n served-is run run-is busy rows busy-is rows-is flight heard comes place passed bus-is stirred₁ due₂ stirred-is due-is first soonest ends₁ come u ends-is come-is u-is in
+            (on .0, (on .1, (after, queued-next b f unmet m stirred due k new new-is ends ending look look-is due₁ attend-is low n served-is run run-is busy rows busy-is rows-is flight heard comes place passed bus-is stirred₁ due₂ stirred-is due-is first soonest ends₁ come u ends-is come-is u-is place passed noted wait₂ waitend₂ roomy-then waits-then)))

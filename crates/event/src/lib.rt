@@ -3,6 +3,7 @@
 use readiness::may_run;
 use serving::attend;
 use serving::serve;
+use starting::news;
 use starting::starts;
 ghost use mathlib.Core.Path.{_≡_};
 ghost use mathlib.Core.Bool.{false};
@@ -11,9 +12,10 @@ ghost use lib.Dec.{eqb};
 ghost use lib.ListN.{length, getD};
 ghost use lib.Seq.{sets};
 ghost use Rattle.lists.specs.Lists.{if_then_else_};
+ghost use Rattle.model.specs.Listing.{bit};
 ghost use Rattle.readiness.specs.Reading.{Within};
 ghost use Rattle.starting.specs.Quiet.{Quiet};
-ghost use Rattle.starting.specs.News.{Soonest};
+ghost use Rattle.starting.specs.News.{new-at, Soonest};
 ghost use Rattle.event.specs.Course.{moment, notes-below, note-by, heard-by, begun-by, sooner-by, come-by, next, Fits, board-of};
 ghost use Rattle.event.specs.Kept.{served-by, event-now, Kept, Queued};
 ghost use Rattle.event.specs.Ending.{Ending, ends-now, changes-at};
@@ -117,7 +119,17 @@ fn heard<'a>(
     }
 }
 
-// Each free node starts, where a row is over at this clock. Where none is, no node can start. A node for which nothing is new has nothing to start. The answer is
+// The mask of the nodes for which something is new at clock u, where a row is over at it. Where none is, it is empty.
+fn new_nodes<'a>(come: u32, u: u32, stirred: &'a [u32; 8], busy: &'a [u32; 8]) -> u32
+    ensures { λ r. ⌜ (r < 256) × (come ≡ u → (n : ℕ) → n < 8 → bit r n ≡ new-at (now (stirred .entry)) (now (busy .entry)) u n) ⌝ }
+{
+    if come != u {
+        return 0;
+    }
+    news(u, stirred, busy)
+}
+
+// Each free node starts, where a row is over at this clock. Where none is, no node can start. A node that is not in the mask `new` has nothing to start. The answer is
 // the end of the process that ends first of those that start, or 2,000,000,000.
 fn begin<'a>(
     come: u32,
@@ -135,11 +147,11 @@ fn begin<'a>(
     turn: &'a [u32; 128],
     ticks: &'a [u32; 64],
     u: u32,
-    stirred: &'a [u32; 8],
+    new: u32,
     busy: &mut [u32; 8],
     comes: &mut [u32; 198],
 ) -> u32
-    requires { ⌜ (slots ≤ 8) × (processes ≤ 64) × ((k : ℕ) → getD (now intofirst) k 0 ≤ 128) × Within (now from) (now cue) (now into) × ((k : ℕ) → getD (now turnfirst) k 0 ≤ 128) × ((j : ℕ) → getD (now turn) j 0 < 64) × (u ≤ 1000000000) × ((i : ℕ) → getD (now ticks) i 0 ≤ 100000) × Quiet processes slots (now remote) (now from) (now cue) (now unmet) (now run) (now several) (now intofirst) (now into) (now turnfirst) (now turn) (now ticks) u (now stirred) (now busy) (now comes) ⌝ }
+    requires { ⌜ (slots ≤ 8) × (processes ≤ 64) × ((k : ℕ) → getD (now intofirst) k 0 ≤ 128) × Within (now from) (now cue) (now into) × ((k : ℕ) → getD (now turnfirst) k 0 ≤ 128) × ((j : ℕ) → getD (now turn) j 0 < 64) × (u ≤ 1000000000) × ((i : ℕ) → getD (now ticks) i 0 ≤ 100000) × (new < 256) × Quiet processes slots (now remote) (now from) (now cue) (now unmet) (now run) (now several) (now intofirst) (now into) (now turnfirst) (now turn) (now ticks) u new (now busy) (now comes) ⌝ }
     ensures ends { λ _. ⌜ now (busy .exit) ≡ begun-by come processes (now (remote .entry)) (now (from .entry)) (now (cue .entry)) (now (unmet .entry)) (now (run .entry)) (now (several .entry)) (now (intofirst .entry)) (now (into .entry)) u (now (turnfirst .entry)) (now (turn .entry)) (now (ticks .entry)) slots (record { busy = now (busy .entry); comes = now (comes .entry) }) .busy ⌝ }
     ensures rows { λ _. ⌜ now (comes .exit) ≡ begun-by come processes (now (remote .entry)) (now (from .entry)) (now (cue .entry)) (now (unmet .entry)) (now (run .entry)) (now (several .entry)) (now (intofirst .entry)) (now (into .entry)) u (now (turnfirst .entry)) (now (turn .entry)) (now (ticks .entry)) slots (record { busy = now (busy .entry); comes = now (comes .entry) }) .comes ⌝ }
     ensures soonest { λ r. ⌜ (length (now (busy .entry)) ≡ 8 → Soonest slots u (now (busy .entry)) (now (busy .exit)) r) ⌝ }
@@ -160,7 +172,7 @@ fn begin<'a>(
             turn,
             ticks,
             u,
-            stirred,
+            new,
             busy,
             comes,
         );
@@ -350,6 +362,7 @@ pub fn event<'a>(
         run,
     );
     let look = changes(told, ends, u);
+    let new = new_nodes(come, u, stirred, busy);
     attend(
         processes,
         tell,
@@ -369,6 +382,7 @@ pub fn event<'a>(
         look,
         told,
         u,
+        new,
         due,
         wait,
         waitend,
@@ -389,7 +403,7 @@ pub fn event<'a>(
         turn,
         ticks,
         u,
-        stirred,
+        new,
         busy,
         comes,
     );

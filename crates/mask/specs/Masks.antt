@@ -2,7 +2,7 @@
 -- Assumes nothing.
 use Prim.Native.Nat.{ℕ, zero, suc, _+_, _*_}
 use mathlib.Core.Bool.{Bool, false}
-use mathlib.Core.List.{List}
+use mathlib.Core.List.{List, [], _∷_}
 use lib.ListN.{getD}
 use Rattle.lists.specs.Lists.{if_then_else_, keep, below}
 use Rattle.model.specs.Listing.{bit}
@@ -14,6 +14,11 @@ members m = keep (bit m) (below 6)
 -- the nodes whose bits are set in a mask of eight bits, ascending
 unfoldable pub nodes : ℕ → List ℕ
 nodes m = keep (bit m) (below 8)
+
+-- one step for each number of a list, one after another
+unfoldable pub steps : {A : Type 0} → (ℕ → A → A) → List ℕ → A → A
+steps f [] s = s
+steps f (n ∷ ns) s = steps f ns (f n s)
 
 -- a mask with one bit more below its lowest
 abbrev pub under : Bool → ℕ → ℕ

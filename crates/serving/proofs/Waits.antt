@@ -4,7 +4,7 @@ use Prim.Native.Nat.{ℕ, zero, suc, _+_, _≤_, _<_}
 use mathlib.Core.Path.{_≡_, sym, ap, _∙_, subst}
 use mathlib.Core.Logic.{_⊎_, inl, inr}
 use mathlib.Core.Bool.{Bool, true, false, not, _||_}
-use mathlib.Core.List.{List, List·Memᴰ as In}
+use mathlib.Core.List.{List, [], _∷_, List·Memᴰ as In, List·Memᴰ·head as here, List·Memᴰ·tail as there, List·Memᴰ·not-nil as in-none}
 use native.Mathlib.Numerals.{add-one}
 use native.Mathlib.Omega.{arith}
 use lib.Dec.{eqb, ltb}
@@ -19,7 +19,7 @@ use Rattle.readiness.proofs.Parts.{part-end, part-next, part-in}
 use Rattle.packing.specs.Packing.{Listed}
 use Rattle.packing.proofs.Places.{part-same, listed-small}
 use Rattle.packing.proofs.Scan.{keep-some}
-use Rattle.serving.specs.Serving.{Waiting, Roomy, Relisted, Attended-node, Attended-below}
+use Rattle.serving.specs.Serving.{Waiting, Roomy, Relisted, Attended-node, Attended}
 
 -- the messages that wait are those of edges
 pub waiting-small : (from cue queue : List ℕ) → Within from cue queue → (f : ℕ → Bool) (a b x : ℕ) → In x (keep f (part queue a b)) → x < 128
@@ -33,6 +33,18 @@ some-waits f es wait wait′ a z h l = sym (keep-some f es) ∙ ap (λ (xs : Lis
 
 pub none-waits : (f : ℕ → Bool) (es wait wait′ : List ℕ) (a z : ℕ) → Listed wait wait′ a z (keep f es) → z ≤ a → any f es ≡ false
 none-waits f es wait wait′ a z h l = sym (keep-some f es) ∙ ap (λ (xs : List ℕ). not (null xs)) (sym (h .holds) ∙ part-end wait′ a z l)
+
+-- the nodes one after another: those of a list are still to be looked up
+pub record Attending (queuefirst : List ℕ) (slots told u : ℕ) (busy : List ℕ) (messages : ℕ → List ℕ) (wait waitend left wait′ waitend′ : List ℕ) : Type 0 where
+  pub roomy : Roomy wait′ waitend′
+  pub looked : (i : ℕ) → i < slots → (In i left → ⊥) → (eqb told u || eqb (getD busy i 0) u) ≡ true → Waiting queuefirst wait′ waitend′ i (messages i)
+  pub kept : (i : ℕ) → i < slots → In i left ⊎ ((eqb told u || eqb (getD busy i 0) u) ≡ false) → (ms : List ℕ) → Waiting queuefirst wait waitend i ms → Waiting queuefirst wait′ waitend′ i ms
+
+-- the same with equal names
+pub attending-as : {queuefirst : List ℕ} {slots told u : ℕ} {busy : List ℕ} {messages : ℕ → List ℕ} {wait waitend left wait₁ waitend₁ wait₂ waitend₂ : List ℕ} → wait₂ ≡ wait₁ → waitend₂ ≡ waitend₁ →
+    Attending queuefirst slots told u busy messages wait waitend left wait₁ waitend₁ → Attending queuefirst slots told u busy messages wait waitend left wait₂ waitend₂
+attending-as {queuefirst} {slots} {told} {u} {busy} {messages} {wait} {waitend} {left} {wait₁} {waitend₁} {wait₂} {waitend₂} p q h =
+    subst (λ (xs : List ℕ). Attending queuefirst slots told u busy messages wait waitend left xs waitend₂) (sym p) (subst (Attending queuefirst slots told u busy messages wait waitend left wait₁) (sym q) h)
 
 -- places of the queue rise from node to node
 module _ (queuefirst : List ℕ) (slots : ℕ) (rising : (n : ℕ) → n < slots → getD queuefirst n 0 ≤ getD queuefirst (n + 1) 0) where
@@ -85,55 +97,73 @@ module _ (queuefirst : List ℕ) (slots : ℕ) (rising : (n : ℕ) → n < slots
           ends-long = ap length (r .stored) ∙ length-set waitend n (r .end) ∙ h .ends-long;
         }
 
-  -- the nodes one after another
+  -- one node after another
   module _ (told u : ℕ) (busy : List ℕ) (messages : ℕ → List ℕ) (small : (i x : ℕ) → In x (messages i) → x < 128) (few : slots ≤ 8) (wait waitend : List ℕ) where
-    pub attended-start : Roomy wait waitend → Attended-below told u busy queuefirst slots 0 messages wait waitend wait waitend
-    attended-start h = record { roomy = h; looked = λ i l. absurd (omega arith); kept = λ i l c ms w. w }
+    abbrev changes : ℕ → Bool
+    changes i = eqb told u || eqb (getD busy i 0) u
 
-    pub attended-next : (n : ℕ) (wait₁ waitend₁ wait₂ waitend₂ : List ℕ) → n < slots → Attended-below told u busy queuefirst slots n messages wait waitend wait₁ waitend₁ →
-        Attended-node told u busy queuefirst n (messages n) wait₁ waitend₁ wait₂ waitend₂ → Attended-below told u busy queuefirst slots (n + 1) messages wait waitend wait₂ waitend₂
-    attended-next n wait₁ waitend₁ wait₂ waitend₂ l h g = at (two (eqb told u || eqb (getD busy n 0) u))
+    pub attending-start : (left : List ℕ) → Roomy wait waitend → ((i : ℕ) → i < slots → (In i left → ⊥) → (eqb told u || eqb (getD busy i 0) u) ≡ false) → Attending queuefirst slots told u busy messages wait waitend left wait waitend
+    attending-start left h quiet = record { roomy = h; looked = λ i l d c. clash c (quiet i l d); kept = λ i l c ms w. w }
+
+    -- one node less, for which nothing changed
+    pub attending-past : (n : ℕ) (left wait₁ waitend₁ : List ℕ) → (n < slots → (eqb told u || eqb (getD busy n 0) u) ≡ false) → Attending queuefirst slots told u busy messages wait waitend (n ∷ left) wait₁ waitend₁ →
+        Attending queuefirst slots told u busy messages wait waitend left wait₁ waitend₁
+    attending-past n left wait₁ waitend₁ q h =
+        record {
+          roomy = h .roomy;
+          looked = λ i l d c. h .looked i l (apart i l d c) c;
+          kept = λ i l c ms w. h .kept i l (before i c) ms w;
+        }
       where
-        at : ((eqb told u || eqb (getD busy n 0) u) ≡ true) ⊎ ((eqb told u || eqb (getD busy n 0) u) ≡ false) → Attended-below told u busy queuefirst slots (n + 1) messages wait waitend wait₂ waitend₂
+        apart : (i : ℕ) → i < slots → (In i left → ⊥) → changes i ≡ true → In i (n ∷ left) → ⊥
+        apart i l d c (here e) = absurd (clash c (ap changes e ∙ q (subst (λ (k : ℕ). k < slots) e l)))
+        apart i l d c (there m) = d m
+
+        before : (i : ℕ) → In i left ⊎ (changes i ≡ false) → In i (n ∷ left) ⊎ (changes i ≡ false)
+        before i (inl m) = inl (there m)
+        before i (inr c) = inr c
+
+    -- one node less, which was looked up
+    pub attending-next : (n : ℕ) (left wait₁ waitend₁ wait₂ waitend₂ : List ℕ) → n < slots → (In n left → ⊥) → Attending queuefirst slots told u busy messages wait waitend (n ∷ left) wait₁ waitend₁ →
+        Attended-node told u busy queuefirst n (messages n) wait₁ waitend₁ wait₂ waitend₂ → Attending queuefirst slots told u busy messages wait waitend left wait₂ waitend₂
+    attending-next n left wait₁ waitend₁ wait₂ waitend₂ l once h g = at (two (changes n))
+      where
+        at : (changes n ≡ true) ⊎ (changes n ≡ false) → Attending queuefirst slots told u busy messages wait waitend left wait₂ waitend₂
         at (inr e) =
             let q = g .kept e in
-            let move : (i : ℕ) (ms : List ℕ) → Waiting queuefirst wait₁ waitend₁ i ms → Waiting queuefirst wait₂ waitend₂ i ms =
-            λ i ms w. subst (λ (xs : List ℕ). Waiting queuefirst xs waitend₂ i ms) (sym (q .0)) (subst (λ (xs : List ℕ). Waiting queuefirst wait₁ xs i ms) (sym (q .1)) w) in
-            record {
-              roomy = subst (λ (xs : List ℕ). Roomy xs waitend₂) (sym (q .0)) (subst (Roomy wait₁) (sym (q .1)) (h .roomy));
-              looked = λ i o c. move i (messages i) (h .looked i (low i o c) c);
-              kept = λ i o c ms w. move i ms (h .kept i o (before i c) ms w);
-            }
-          where
-            low : (i : ℕ) → i < n + 1 → (eqb told u || eqb (getD busy i 0) u) ≡ true → i < n
-            low i o c = by (two (eqb i n))
-              where
-                by : (eqb i n ≡ true) ⊎ (eqb i n ≡ false) → i < n
-                by (inl z) = clash c (ap (λ (k : ℕ). eqb told u || eqb (getD busy k 0) u) (eqb-true i n z) ∙ e)
-                by (inr z) = let d : i ≡ n → ⊥ = eqb-false i n z in omega (arith, d)
-
-            before : (i : ℕ) → (n + 1 ≤ i) ⊎ ((eqb told u || eqb (getD busy i 0) u) ≡ false) → (n ≤ i) ⊎ ((eqb told u || eqb (getD busy i 0) u) ≡ false)
-            before i (inl o) = inl (omega arith)
-            before i (inr c) = inr c
+            subst (λ (xs : List ℕ). Attending queuefirst slots told u busy messages wait waitend left xs waitend₂) (sym (q .0))
+            (subst (Attending queuefirst slots told u busy messages wait waitend left wait₁) (sym (q .1)) (attending-past n left wait₁ waitend₁ (λ o. e) h))
         at (inl e) =
             let r = g .looked e in
-            let own = relisted-own n (messages n) wait₁ waitend₁ wait₂ waitend₂ r (omega (arith, h .roomy .ends-long)) in
             record {
               roomy = relisted-roomy n (messages n) wait₁ waitend₁ wait₂ waitend₂ r (h .roomy) (small n);
-              looked = λ i o c. first i o c own (two (eqb i n));
+              looked = λ i o d c. first i o d c (two (eqb i n));
               kept = λ i o c ms w. relisted-other n (messages n) wait₁ waitend₁ wait₂ waitend₂ r l i o (apart i c) ms (h .kept i o (before i c) ms w);
             }
           where
-            first : (i : ℕ) → i < n + 1 → (eqb told u || eqb (getD busy i 0) u) ≡ true → Waiting queuefirst wait₂ waitend₂ n (messages n) → (eqb i n ≡ true) ⊎ (eqb i n ≡ false) → Waiting queuefirst wait₂ waitend₂ i (messages i)
-            first i o c own (inl z) = subst (λ (k : ℕ). Waiting queuefirst wait₂ waitend₂ k (messages k)) (sym (eqb-true i n z)) own
-            first i o c own (inr z) =
-                let d : i ≡ n → ⊥ = eqb-false i n z in
-                relisted-other n (messages n) wait₁ waitend₁ wait₂ waitend₂ (g .looked e) l i (omega (arith, d)) d (messages i) (h .looked i (omega (arith, d)) c)
+            first : (i : ℕ) → i < slots → (In i left → ⊥) → changes i ≡ true → (eqb i n ≡ true) ⊎ (eqb i n ≡ false) → Waiting queuefirst wait₂ waitend₂ i (messages i)
+            first i o d c (inl z) =
+                subst (λ (k : ℕ). Waiting queuefirst wait₂ waitend₂ k (messages k)) (sym (eqb-true i n z)) (relisted-own n (messages n) wait₁ waitend₁ wait₂ waitend₂ (g .looked e) (omega (arith, h .roomy .ends-long)))
+            first i o d c (inr z) =
+                let v : i ≡ n → ⊥ = eqb-false i n z in
+                relisted-other n (messages n) wait₁ waitend₁ wait₂ waitend₂ (g .looked e) l i o v (messages i) (h .looked i o (other v) c)
+              where
+                other : (i ≡ n → ⊥) → In i (n ∷ left) → ⊥
+                other v (here q) = v q
+                other v (there m) = d m
 
-            apart : (i : ℕ) → (n + 1 ≤ i) ⊎ ((eqb told u || eqb (getD busy i 0) u) ≡ false) → i ≡ n → ⊥
-            apart i (inl o) q = absurd (omega arith)
-            apart i (inr c) q = clash e (ap (λ (k : ℕ). eqb told u || eqb (getD busy k 0) u) (sym q) ∙ c)
+            apart : (i : ℕ) → In i left ⊎ (changes i ≡ false) → i ≡ n → ⊥
+            apart i (inl m) q = once (subst (λ (k : ℕ). In k left) q m)
+            apart i (inr c) q = clash e (ap changes (sym q) ∙ c)
 
-            before : (i : ℕ) → (n + 1 ≤ i) ⊎ ((eqb told u || eqb (getD busy i 0) u) ≡ false) → (n ≤ i) ⊎ ((eqb told u || eqb (getD busy i 0) u) ≡ false)
-            before i (inl o) = inl (omega arith)
+            before : (i : ℕ) → In i left ⊎ (changes i ≡ false) → In i (n ∷ left) ⊎ (changes i ≡ false)
+            before i (inl m) = inl (there m)
             before i (inr c) = inr c
+
+    pub attending-end : (left wait₁ waitend₁ : List ℕ) → left ≡ [] → Attending queuefirst slots told u busy messages wait waitend left wait₁ waitend₁ → Attended told u busy queuefirst slots messages wait waitend wait₁ waitend₁
+    attending-end left wait₁ waitend₁ q h =
+        record {
+          roomy = h .roomy;
+          looked = λ i l c. h .looked i l (λ m. in-none (subst (λ (xs : List ℕ). In i xs) q m)) c;
+          kept = λ i l c ms w. h .kept i l (inr c) ms w;
+        }

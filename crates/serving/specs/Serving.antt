@@ -3,10 +3,9 @@
 -- Assumes nothing.
 use Prim.Native.Nat.{ℕ, zero, suc, _+_, _-_, _≤_, _<_}
 use mathlib.Core.Path.{_≡_}
-use mathlib.Core.Logic.{_⊎_}
 use mathlib.Core.Bool.{Bool, true, false, _||_}
 use mathlib.Core.List.{List}
-use lib.Dec.{eqb}
+use lib.Dec.{eqb, ltb}
 use lib.ListN.{length, getD, set}
 use Rattle.lists.specs.Lists.{if_then_else_, keep}
 use Rattle.timetable.specs.Bus.{beginning-at}
@@ -100,6 +99,10 @@ module _ (told u : ℕ) (pending : ℕ → Bool) (busy : List ℕ) (round : ℕ)
   attend-below zero due = due
   attend-below (suc n) due = attend-node n (attend-below n due)
 
+  -- a number is looked up, if it is that of a node
+  unfoldable pub attend-in : ℕ → ℕ → List ℕ → List ℕ
+  attend-in slots n due = if ltb n slots then attend-node n due else due
+
   -- where no row is over at the clock, nothing is
   unfoldable pub attend-by : ℕ → ℕ → List ℕ → List ℕ
   attend-by come slots due = if eqb come u then attend-below slots due else due
@@ -116,16 +119,16 @@ pub record Attended-node (told u : ℕ) (busy queuefirst : List ℕ) (n : ℕ) (
   pub looked : (eqb told u || eqb (getD busy n 0) u) ≡ true → Relisted queuefirst n messages wait waitend wait′ waitend′
   pub kept : (eqb told u || eqb (getD busy n 0) u) ≡ false → (wait′ ≡ wait) × (waitend′ ≡ waitend)
 
--- The same of the nodes below n: those that wait stand in the array, and of the other nodes what stood there.
-pub record Attended-below (told u : ℕ) (busy queuefirst : List ℕ) (slots n : ℕ) (messages : ℕ → List ℕ) (wait waitend wait′ waitend′ : List ℕ) : Type 0 where
+-- The same of all nodes: those that wait stand in the array, and of a node that is not looked up what stood there.
+pub record Attended (told u : ℕ) (busy queuefirst : List ℕ) (slots : ℕ) (messages : ℕ → List ℕ) (wait waitend wait′ waitend′ : List ℕ) : Type 0 where
   pub roomy : Roomy wait′ waitend′
-  pub looked : (i : ℕ) → i < n → (eqb told u || eqb (getD busy i 0) u) ≡ true → Waiting queuefirst wait′ waitend′ i (messages i)
-  pub kept : (i : ℕ) → i < slots → (n ≤ i) ⊎ ((eqb told u || eqb (getD busy i 0) u) ≡ false) → (ms : List ℕ) → Waiting queuefirst wait waitend i ms → Waiting queuefirst wait′ waitend′ i ms
+  pub looked : (i : ℕ) → i < slots → (eqb told u || eqb (getD busy i 0) u) ≡ true → Waiting queuefirst wait′ waitend′ i (messages i)
+  pub kept : (i : ℕ) → i < slots → (eqb told u || eqb (getD busy i 0) u) ≡ false → (ms : List ℕ) → Waiting queuefirst wait waitend i ms → Waiting queuefirst wait′ waitend′ i ms
 
--- The same of all nodes; where no row is over at the clock, nothing changed.
-pub record Attended-all (told u come slots : ℕ) (busy queuefirst : List ℕ) (messages : ℕ → List ℕ) (wait waitend wait′ waitend′ : List ℕ) : Type 0 where
-  pub all : come ≡ u → Attended-below told u busy queuefirst slots slots messages wait waitend wait′ waitend′
-  pub none : (come ≡ u → ⊥) → (wait′ ≡ wait) × (waitend′ ≡ waitend)
+-- That is so where the pending items of some node may change at the clock; where they do not, nothing changed.
+pub record Attended-all (told u look slots : ℕ) (busy queuefirst : List ℕ) (messages : ℕ → List ℕ) (wait waitend wait′ waitend′ : List ℕ) : Type 0 where
+  pub all : look ≡ u → Attended told u busy queuefirst slots messages wait waitend wait′ waitend′
+  pub none : (look ≡ u → ⊥) → (wait′ ≡ wait) × (waitend′ ≡ waitend)
 
 -- After a slot the messages that are left are listed anew; where none begins, nothing changed.
 pub record Served (slots n : ℕ) (queuefirst messages wait waitend wait′ waitend′ : List ℕ) : Type 0 where

@@ -1,4 +1,6 @@
 // What the slot of a node takes as it begins, at which nodes that arrives, and when the slot next takes something. specs/Serving.antt says the same of the arrays.
+use mask::lowest_node;
+use mask::without_lowest_node;
 use packing::find_waiting;
 use packing::has_tell;
 use packing::send;
@@ -6,10 +8,11 @@ use timetable::first_beginning;
 ghost use mathlib.Core.Path.{_≡_};
 ghost use Prim.Native.Nat.{ℕ, _+_, _<_, _≤_};
 ghost use mathlib.Core.List.{List·Memᴰ as In};
-ghost use mathlib.Core.Bool.{_||_};
+ghost use mathlib.Core.Bool.{false, _||_};
 ghost use lib.Dec.{eqb};
 ghost use lib.ListN.{length, getD, set};
 ghost use Rattle.lists.specs.Lists.{if_then_else_};
+ghost use Rattle.model.specs.Listing.{bit};
 ghost use Rattle.readiness.specs.Reading.{part, Within};
 ghost use Rattle.packing.specs.Packing.{Listed};
 ghost use Rattle.serving.specs.Serving.{bus, fill-with, taken-in, left-with, stir-with, Roomy, Relisted, Attended-node, Attended-all, Served, waiting-in, pending-in, due-from, attend-node, attend-by};
@@ -194,7 +197,8 @@ fn attend_node<'a>(
     }
 }
 
-// When the slot of each node next takes an item, as seen at clock u. Where no row is over at it, that is as before.
+// When the slot of each node next takes an item, as seen at clock u. Where nothing changes at it (`come` is not u), that is as before. `new` is the mask of the
+// nodes for which something is new at u; for the others it is as before too.
 pub fn attend<'a>(
     processes: usize,
     tell: usize,
@@ -214,42 +218,46 @@ pub fn attend<'a>(
     come: u32,
     told: u32,
     u: u32,
+    new: u32,
     due: &mut [u32; 8],
     wait: &mut [u32; 128],
     waitend: &mut [u32; 8],
 )
-    requires { ⌜ (slots ≤ 8) × (processes ≤ 64) × (tell ≤ 192) × (conditions ≤ 6) × ((k : ℕ) → getD (now decider) k 0 < 64) × Within (now from) (now cue) (now queue) × ((k : ℕ) → getD (now queuefirst) k 0 ≤ 128) × (1 ≤ round) × (round ≤ 512000) × ((n : ℕ) → n < slots → getD (now offset) n 0 ≤ round) × (1 ≤ u) × (u ≤ 1000000000) × ((n : ℕ) → n < slots → getD (now queuefirst) n 0 ≤ getD (now queuefirst) (n + 1) 0) × Roomy (now wait) (now waitend) ⌝ }
+    requires { ⌜ (slots ≤ 8) × (processes ≤ 64) × (tell ≤ 192) × (conditions ≤ 6) × ((k : ℕ) → getD (now decider) k 0 < 64) × Within (now from) (now cue) (now queue) × ((k : ℕ) → getD (now queuefirst) k 0 ≤ 128) × (1 ≤ round) × (round ≤ 512000) × ((n : ℕ) → n < slots → getD (now offset) n 0 ≤ round) × (1 ≤ u) × (u ≤ 1000000000) × (new < 256) × ((n : ℕ) → n < slots → bit new n ≡ false → (told ≡ u → ⊥) × (getD (now busy) n 0 ≡ u → ⊥)) × ((n : ℕ) → n < slots → getD (now queuefirst) n 0 ≤ getD (now queuefirst) (n + 1) 0) × Roomy (now wait) (now waitend) ⌝ }
     ensures due { λ _. ⌜ now (due .exit) ≡ attend-by told u (pending-in processes tell conditions (now (decider .entry)) (now (node .entry)) (now (queuefirst .entry)) (now (queue .entry)) (now (from .entry)) (now (cue .entry)) (now (unmet .entry)) (now (comes .entry)) u) (now (busy .entry)) round (now (offset .entry)) come slots (now (due .entry)) ⌝ }
     ensures waits { λ _. ⌜ Attended-all told u come slots (now (busy .entry)) (now (queuefirst .entry)) (waiting-in processes tell conditions (now (decider .entry)) (now (node .entry)) (now (queuefirst .entry)) (now (queue .entry)) (now (from .entry)) (now (cue .entry)) (now (unmet .entry)) (now (comes .entry)) u) (now (wait .entry)) (now (waitend .entry)) (now (wait .exit)) (now (waitend .exit)) ⌝ }
 {
     if come != u {
         return;
     }
-    let mut n: usize = 0;
-    while n < slots {
-        attend_node(
-            processes,
-            tell,
-            conditions,
-            decider,
-            node,
-            queuefirst,
-            queue,
-            from,
-            cue,
-            unmet,
-            comes,
-            busy,
-            round,
-            offset,
-            told,
-            n,
-            u,
-            due,
-            wait,
-            waitend,
-        );
-        n += 1;
+    let mut left = new;
+    while left != 0 {
+        let n = lowest_node(left) as usize;
+        if n < slots {
+            attend_node(
+                processes,
+                tell,
+                conditions,
+                decider,
+                node,
+                queuefirst,
+                queue,
+                from,
+                cue,
+                unmet,
+                comes,
+                busy,
+                round,
+                offset,
+                told,
+                n,
+                u,
+                due,
+                wait,
+                waitend,
+            );
+        }
+        left = without_lowest_node(left);
     }
 }
 

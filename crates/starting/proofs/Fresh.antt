@@ -1,29 +1,28 @@
 -- The starts of the nodes for which something is new are the starts of all nodes, and the first end of the processes that start is kept from node to node.
 -- Assumes nothing.
-use Prim.Native.Nat.{ℕ, zero, suc, _+_, _≤_, _<_}
-use mathlib.Core.Path.{_≡_, refl, sym, ap, _∙_, subst}
+use Prim.Native.Nat.{ℕ, suc, _≤_, _<_}
+use mathlib.Core.Path.{_≡_, refl, sym, ap, _∙_}
 use mathlib.Core.Logic.{_⊎_, inl, inr}
-use mathlib.Core.Bool.{Bool, true, false}
-use mathlib.Core.List.{List, [], _∷_}
+use mathlib.Core.Bool.{true, false}
+use mathlib.Core.List.{List}
 use native.Mathlib.Omega.{arith}
-use lib.Dec.{eqb, ltb}
+use lib.Dec.{eqb}
 use lib.ListN.{length, getD, set, length-set}
 use lib.Seq.{getD-set-other}
 use borrow.Author.Tests.{eqb-true, eqb-false, lt-ltb, le-ltb}
-use Rattle.lists.specs.Lists.{if_then_else_, keep, upfrom, below}
-use Rattle.lists.proofs.Tests.{two, neither}
+use Rattle.lists.proofs.Tests.{two}
+use Rattle.model.specs.Listing.{bit}
+use Rattle.mask.specs.Masks.{nodes, steps}
+use Rattle.mask.proofs.Steps.{steps-kept}
 use Rattle.starting.specs.Starting.{Ends, start-by, starts-by}
 use Rattle.starting.specs.Quiet.{Quiet}
-use Rattle.starting.specs.News.{new-at, start-in, start-each, no-end, Soonest}
+use Rattle.starting.specs.News.{start-in, no-end, Soonest}
 use Rattle.starting.proofs.Ends.{set-there}
 use Rattle.starting.proofs.Quiet.{old-then}
 
 module _ (processes : ℕ) (remote from cue unmet run several intofirst into : List ℕ) (u : ℕ) (turnfirst turn ticks : List ℕ) (slots : ℕ) where
   abbrev one : ℕ → Ends → Ends
   one = start-in processes remote from cue unmet run several intofirst into u turnfirst turn ticks slots
-
-  abbrev each : List ℕ → Ends → Ends
-  each = start-each processes remote from cue unmet run several intofirst into u turnfirst turn ticks slots
 
   abbrev step : ℕ → Ends → Ends
   step = start-by processes remote from cue unmet run several intofirst into u turnfirst turn ticks
@@ -37,52 +36,23 @@ module _ (processes : ℕ) (remote from cue unmet run several intofirst into : L
   unfolding start-in
   in-none n s l = rw (le-ltb n slots l) refl
 
-  -- numbers from the number of slots on are no nodes
-  none-start : (f : ℕ → Bool) (d k : ℕ) (s : Ends) → slots ≤ k → each (keep f (upfrom k d)) s ≡ s
-  unfolding start-each
-  none-start f zero k s l = refl
-  none-start f (suc d) k s l = at (f k) (none-start f d (suc k) s (omega arith))
-    where
-      at : (c : Bool) → each (keep f (upfrom (suc k) d)) s ≡ s → each (if c then k ∷ keep f (upfrom (suc k) d) else keep f (upfrom (suc k) d)) s ≡ s
-      at true r = ap (each (keep f (upfrom (suc k) d))) (in-none k s l) ∙ r
-      at false r = r
-
-  module _ (stirred busy comes : List ℕ) (low : (j : ℕ) → getD turn j 0 < 64)
-      (q : Quiet processes slots remote from cue unmet run several intofirst into turnfirst turn ticks u stirred busy comes) where
+  module _ (new : ℕ) (busy comes : List ℕ) (low : (j : ℕ) → getD turn j 0 < 64)
+      (q : Quiet processes slots remote from cue unmet run several intofirst into turnfirst turn ticks u new busy comes) where
     abbrev after : ℕ → Ends
     after n = starts-by processes remote from cue unmet run several intofirst into u turnfirst turn ticks n (record { busy = busy; comes = comes })
 
-    abbrev new : ℕ → Bool
-    new = new-at stirred busy u
-
     -- where nothing is new for a node, its start changes nothing
-    old-node : (n : ℕ) → n < slots → new n ≡ false → after (suc n) ≡ after n
-    unfolding new-at starts-by
-    old-node n l e =
-        let d = neither (eqb (getD stirred n 0) u) (eqb (getD busy n 0) u) e in
-        old-then processes remote from cue unmet run several intofirst into u turnfirst turn ticks slots stirred busy comes low q n l (eqb-false _ _ (d .1)) (eqb-false _ _ (d .0))
+    old-node : (n : ℕ) → n < slots → bit new n ≡ false → after (suc n) ≡ after n
+    unfolding starts-by
+    old-node n l e = old-then processes remote from cue unmet run several intofirst into u turnfirst turn ticks slots new busy comes low q n l e
 
     new-node : (n : ℕ) → n < slots → one n (after n) ≡ after (suc n)
     unfolding starts-by
     new-node n l = in-node n (after n) l
 
-    go-on : (d k : ℕ) → k ≤ slots → slots ≤ k + d → each (keep new (upfrom k d)) (after k) ≡ after slots
-    unfolding start-each
-    go-on zero k l h = let e : k ≡ slots = omega arith in ap after e
-    go-on (suc d) k l h = by (two (eqb k slots)) (λ o. go-on d (suc k) o (omega arith))
-      where
-        at : k < slots → (c : Bool) → new k ≡ c → each (keep new (upfrom (suc k) d)) (after (suc k)) ≡ after slots →
-            each (if c then k ∷ keep new (upfrom (suc k) d) else keep new (upfrom (suc k) d)) (after k) ≡ after slots
-        at o true e r = ap (each (keep new (upfrom (suc k) d))) (new-node k o) ∙ r
-        at o false e r = ap (each (keep new (upfrom (suc k) d))) (sym (old-node k o e)) ∙ r
-
-        by : (eqb k slots ≡ true) ⊎ (eqb k slots ≡ false) → (k < slots → each (keep new (upfrom (suc k) d)) (after (suc k)) ≡ after slots) → each (keep new (upfrom k (suc d))) (after k) ≡ after slots
-        by (inl e) r = let z : k ≡ slots = eqb-true k slots e in none-start new (suc d) k (after k) (omega arith) ∙ ap after z
-        by (inr e) r = let z : k ≡ slots → ⊥ = eqb-false k slots e in let o : k < slots = omega (arith, z) in at o (new k) refl (r o)
-
-    pub news-start : slots ≤ 8 → each (keep (new-at stirred busy u) (below 8)) (record { busy = busy; comes = comes }) ≡ after slots
-    unfolding starts-by
-    news-start l = go-on 8 0 (omega arith) (omega arith)
+    pub news-start : slots ≤ 8 → steps one (nodes new) (record { busy = busy; comes = comes }) ≡ after slots
+    unfolding starts-by nodes
+    news-start l = steps-kept one (bit new) slots after new-node in-none old-node 8 l
 
 -- as nothing has started yet
 pub soonest-none : (slots u : ℕ) (busy : List ℕ) → length busy ≡ 8 → Soonest slots u busy busy no-end

@@ -1,5 +1,5 @@
--- A process for which nothing has changed can start just where it could before (`idle-stays`); a node with nothing new has nothing to start after
--- the nodes before it have started (`idle-then`, `old-then`); after the starts no process of a free node can start (`starts-idle`).
+-- A process for which nothing has changed can start just where it could before (`idle-stays`); the start of a node with nothing new changes nothing after
+-- the nodes before it have started (`old-then`); after the starts no process of a free node can start (`starts-idle`).
 -- Assumes nothing.
 use mathlib.Core.Path.{_≡_, refl, sym, ap, _∙_, subst}
 use mathlib.Core.Logic.{_⊎_, inl, inr}
@@ -15,6 +15,7 @@ use borrow.Author.Tests.{leb-true, ltb-true, ltb-false}
 use Rattle.lists.specs.Lists.{if_then_else_}
 use Rattle.lists.proofs.Tests.{two, below-suc}
 use Rattle.lists.proofs.Members.{any-same, all-same}
+use Rattle.model.specs.Listing.{bit}
 use Rattle.readiness.specs.Reading.{came-by, edges-into, message-by, delivered-by, never-by, settled-by, ready-by}
 use Rattle.starting.specs.Starting.{Ends, can-start, start-by, starts-by}
 use Rattle.starting.specs.Quiet.{Idle, Quiet}
@@ -100,8 +101,8 @@ module _ (processes : ℕ) (remote from cue unmet run several intofirst into : L
     abbrev stepped-at : ℕ → Ends → Type 0
     stepped-at = Stepped processes remote from cue unmet run several intofirst into u turnfirst turn ticks
 
-    module _ (slots : ℕ) (stirred busy comes : List ℕ) (low : (j : ℕ) → getD turn j 0 < 64)
-        (q : Quiet processes slots remote from cue unmet run several intofirst into turnfirst turn ticks u stirred busy comes) where
+    module _ (slots new : ℕ) (busy comes : List ℕ) (low : (j : ℕ) → getD turn j 0 < 64)
+        (q : Quiet processes slots remote from cue unmet run several intofirst into turnfirst turn ticks u new busy comes) where
       abbrev after : ℕ → Ends
       after n = starts-by processes remote from cue unmet run several intofirst into u turnfirst turn ticks n (record { busy = busy; comes = comes })
 
@@ -147,22 +148,20 @@ module _ (processes : ℕ) (remote from cue unmet run several intofirst into : L
       so-far zero l = record { came = refl; later-rows = λ m j r o a b. refl; later-nodes = λ m r. refl }
       so-far (suc n) l = next n (omega arith) (after n) (so-far n (omega arith)) (step-at n (after n))
 
-      -- after the nodes below n have started, node n has nothing to start where nothing is new for it
-      pub idle-then : (n : ℕ) → n < slots → getD (after n .busy) n 0 < u → (getD stirred n 0 ≡ u → ⊥) → idle-at (after n .comes) n
-      idle-then n l b t j c d =
+      -- after the nodes below n have started, node n has nothing to start where nothing is new for it, and its start changes nothing
+      idle-then : (n : ℕ) → n < slots → bit new n ≡ false → getD (after n .busy) n 0 ≤ u → idle-at (after n .comes) n
+      idle-then n l t b j c d =
           let z = so-far n (omega arith) in
           idle-stays u u comes (after n .comes) (getD turn j 0)
           (alike-rows u comes (after n .comes) (getD turn j 0) (ap (λ (x : ℕ). eqb x 0) (z .later-rows n j (omega arith) l c d)) (z .came))
-          ∙ q .idle n l (omega (arith, z .later-nodes n (omega arith))) t j c d
+          ∙ q .idle n l t (omega (arith, z .later-nodes n (omega arith))) j c d
 
-      -- and its start then changes nothing
-      pub old-then : (n : ℕ) → n < slots → (getD busy n 0 ≡ u → ⊥) → (getD stirred n 0 ≡ u → ⊥) → step n (after n) ≡ after n
-      old-then n l d t = by (two (leb (getD (after n .busy) n 0) u))
+      pub old-then : (n : ℕ) → n < slots → bit new n ≡ false → step n (after n) ≡ after n
+      old-then n l t = by (two (leb (getD (after n .busy) n 0) u))
         where
           by : (leb (getD (after n .busy) n 0) u ≡ true) ⊎ (leb (getD (after n .busy) n 0) u ≡ false) → step n (after n) ≡ after n
           by (inl e) =
-              idle-step processes remote from cue unmet run several intofirst into u turnfirst turn ticks n (after n)
-              (idle-then n l (omega (arith, leb-true (getD (after n .busy) n 0) u e, so-far n (omega arith) .later-nodes n (omega arith), d)) t)
+              idle-step processes remote from cue unmet run several intofirst into u turnfirst turn ticks n (after n) (idle-then n l t (leb-true (getD (after n .busy) n 0) u e))
           by (inr e) = step-busy processes remote from cue unmet run several intofirst into u turnfirst turn ticks n (after n) e
 
       -- After the starts of the nodes below n, none of their processes can start where they are free.

@@ -1,10 +1,10 @@
--- The nodes for which something is new at a clock start one after another, and which of the processes that start ends first.
+-- The nodes for which something is new at a clock, their starts, and which of the processes that start ends first.
 -- Assumes nothing.
 use Prim.Native.Nat.{ℕ, _≤_, _<_}
 use mathlib.Core.Path.{_≡_}
 use mathlib.Core.Logic.{_⊎_}
 use mathlib.Core.Bool.{Bool, _||_}
-use mathlib.Core.List.{List, [], _∷_}
+use mathlib.Core.List.{List}
 use lib.Dec.{eqb, ltb}
 use lib.ListN.{length, getD}
 use Rattle.lists.specs.Lists.{if_then_else_}
@@ -15,13 +15,9 @@ unfoldable pub new-at : List ℕ → List ℕ → ℕ → ℕ → Bool
 new-at stirred busy u n = eqb (getD stirred n 0) u || eqb (getD busy n 0) u
 
 module _ (processes : ℕ) (remote from cue unmet run several intofirst into : List ℕ) (u : ℕ) (turnfirst turn ticks : List ℕ) (slots : ℕ) where
-  -- a number starts, if it is that of a node; and the numbers of a list, one after another
+  -- a number starts, if it is that of a node
   unfoldable pub start-in : ℕ → Ends → Ends
   start-in n s = if ltb n slots then start-by processes remote from cue unmet run several intofirst into u turnfirst turn ticks n s else s
-
-  unfoldable pub start-each : List ℕ → Ends → Ends
-  start-each [] s = s
-  start-each (n ∷ ns) s = start-each ns (start-in n s)
 
 -- the answer where no process starts
 abbrev pub no-end : ℕ

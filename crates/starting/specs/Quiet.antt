@@ -1,11 +1,11 @@
--- What lets a free node be passed by at an event: nothing changes for it at the clock.
--- `stirred`, by node, has the clock at which something for the node last changes other than the end of its own process.
+-- What lets a free node be passed by at an event: it is not in the mask of the nodes for which something is new at the clock.
 -- Assumes nothing.
 use mathlib.Core.Path.{_≡_}
 use mathlib.Core.Bool.{false}
 use mathlib.Core.List.{List}
 use Prim.Native.Nat.{ℕ, _+_, _≤_, _<_}
 use lib.ListN.{getD}
+use Rattle.model.specs.Listing.{bit}
 use Rattle.starting.specs.Starting.{can-start}
 
 -- none of the processes in the turn of node n can start
@@ -14,9 +14,9 @@ Idle processes remote from cue unmet run several intofirst into u turnfirst turn
     (j : ℕ) → getD turnfirst n 0 ≤ j → j < getD turnfirst (n + 1) 0 →
     can-start processes remote from cue unmet run several intofirst into u comes (getD turn j 0) ≡ false
 
-pub record Quiet (processes slots : ℕ) (remote from cue unmet run several intofirst into turnfirst turn ticks : List ℕ) (u : ℕ) (stirred busy comes : List ℕ) : Type 0 where
-  -- a node whose last process ended before the clock, and that is not stirred at it, has no process that can start
-  pub idle : (n : ℕ) → n < slots → getD busy n 0 < u → (getD stirred n 0 ≡ u → ⊥) →
+pub record Quiet (processes slots : ℕ) (remote from cue unmet run several intofirst into turnfirst turn ticks : List ℕ) (u new : ℕ) (busy comes : List ℕ) : Type 0 where
+  -- a free node that is not in the mask has no process that can start
+  pub idle : (n : ℕ) → n < slots → bit new n ≡ false → getD busy n 0 ≤ u →
       Idle processes remote from cue unmet run several intofirst into u turnfirst turn comes n
   -- what stands in the turn of a node are processes, and no process stands in the turns of two nodes
   pub members : (n j : ℕ) → n < slots → getD turnfirst n 0 ≤ j → j < getD turnfirst (n + 1) 0 → getD turn j 0 < processes

@@ -10,8 +10,8 @@ ghost use mathlib.Core.List.{List};
 ghost use Prim.Native.Nat.{ℕ, _+_, _<_, _≤_};
 ghost use lib.Dec.{eqb};
 ghost use lib.ListN.{length, getD};
-ghost use Rattle.lists.specs.Lists.{keep, below};
-ghost use Rattle.mask.specs.Masks.{nodes, mask-from};
+ghost use Rattle.model.specs.Listing.{bit};
+ghost use Rattle.mask.specs.Masks.{mask-from};
 ghost use Rattle.readiness.specs.Reading.{part, Within};
 ghost use Rattle.starting.specs.Starting.{can-start, first-of, end-after, rows-after, starts-by};
 ghost use Rattle.starting.specs.Quiet.{Quiet};
@@ -231,8 +231,8 @@ fn at_clock(by: &[u32; 8], u: u32) -> u32
 }
 
 // The mask of the nodes for which something is new at clock u: an item arrives, or the last process ends.
-fn news<'a>(u: u32, stirred: &'a [u32; 8], busy: &'a [u32; 8]) -> u32
-    ensures { λ r. ⌜ (nodes r ≡ keep (new-at (now (stirred .entry)) (now (busy .entry)) u) (below 8)) × (r < 256) ⌝ }
+pub fn news<'a>(u: u32, stirred: &'a [u32; 8], busy: &'a [u32; 8]) -> u32
+    ensures { λ r. ⌜ (r < 256) × ((n : ℕ) → n < 8 → bit r n ≡ new-at (now (stirred .entry)) (now (busy .entry)) u n) ⌝ }
 {
     let items = at_clock(stirred, u);
     let ends = at_clock(busy, u);
@@ -240,8 +240,8 @@ fn news<'a>(u: u32, stirred: &'a [u32; 8], busy: &'a [u32; 8]) -> u32
 }
 
 // Each free node starts its first ready process in turn that has not started: `busy` has then the end of each node's last process,
-// and `comes` the end of each process. A node whose last process does not end at this clock, and that is not stirred at it, has
-// nothing new and is passed by. The answer is the end of the process that ends first of those that start, or 2,000,000,000.
+// and `comes` the end of each process. `new` is the mask of the nodes for which something is new at this clock; the others have nothing to
+// start and are passed by. The answer is the end of the process that ends first of those that start, or 2,000,000,000.
 pub fn starts<'a>(
     processes: usize,
     slots: usize,
@@ -257,17 +257,17 @@ pub fn starts<'a>(
     turn: &'a [u32; 128],
     ticks: &'a [u32; 64],
     u: u32,
-    stirred: &'a [u32; 8],
+    new: u32,
     busy: &mut [u32; 8],
     comes: &mut [u32; 198],
 ) -> u32
-    requires { ⌜ (slots ≤ 8) × (processes ≤ 64) × ((k : ℕ) → getD (now intofirst) k 0 ≤ 128) × Within (now from) (now cue) (now into) × ((k : ℕ) → getD (now turnfirst) k 0 ≤ 128) × ((j : ℕ) → getD (now turn) j 0 < 64) × (u ≤ 1000000000) × ((i : ℕ) → getD (now ticks) i 0 ≤ 100000) × Quiet processes slots (now remote) (now from) (now cue) (now unmet) (now run) (now several) (now intofirst) (now into) (now turnfirst) (now turn) (now ticks) u (now stirred) (now busy) (now comes) ⌝ }
+    requires { ⌜ (slots ≤ 8) × (processes ≤ 64) × ((k : ℕ) → getD (now intofirst) k 0 ≤ 128) × Within (now from) (now cue) (now into) × ((k : ℕ) → getD (now turnfirst) k 0 ≤ 128) × ((j : ℕ) → getD (now turn) j 0 < 64) × (u ≤ 1000000000) × ((i : ℕ) → getD (now ticks) i 0 ≤ 100000) × (new < 256) × Quiet processes slots (now remote) (now from) (now cue) (now unmet) (now run) (now several) (now intofirst) (now into) (now turnfirst) (now turn) (now ticks) u new (now busy) (now comes) ⌝ }
     ensures ends { λ _. ⌜ now (busy .exit) ≡ starts-by processes (now (remote .entry)) (now (from .entry)) (now (cue .entry)) (now (unmet .entry)) (now (run .entry)) (now (several .entry)) (now (intofirst .entry)) (now (into .entry)) u (now (turnfirst .entry)) (now (turn .entry)) (now (ticks .entry)) slots (record { busy = now (busy .entry); comes = now (comes .entry) }) .busy ⌝ }
     ensures rows { λ _. ⌜ now (comes .exit) ≡ starts-by processes (now (remote .entry)) (now (from .entry)) (now (cue .entry)) (now (unmet .entry)) (now (run .entry)) (now (several .entry)) (now (intofirst .entry)) (now (into .entry)) u (now (turnfirst .entry)) (now (turn .entry)) (now (ticks .entry)) slots (record { busy = now (busy .entry); comes = now (comes .entry) }) .comes ⌝ }
     ensures soonest { λ r. ⌜ (length (now (busy .entry)) ≡ 8 → Soonest slots u (now (busy .entry)) (now (busy .exit)) r) ⌝ }
 {
     let mut first: u32 = 2000000000;
-    let mut left = news(u, stirred, busy);
+    let mut left = new;
     while left != 0 {
         let n = lowest_node(left) as usize;
         first = start_node(

@@ -1,26 +1,33 @@
--- `serving::attend` meets its contract: where a row is over, the nodes are looked at one after another, and nothing changes elsewhere.
+-- `serving::attend` meets its contract: where something changes, the nodes that are left of those for which something is new give the whole answer, and
+-- nothing changes elsewhere.
 -- Assumes nothing.
 use mathlib.Core.Path.{_≡_, refl, sym, ap, _∙_, subst}
+use mathlib.Core.Logic.{⊎-elim}
 use mathlib.Core.List.{List, List·Memᴰ as In}
-use Prim.Native.Nat.{ℕ, _-_, _≤_, _<_}
-use native.Mathlib.Numerals.{add-one}
+use Prim.Native.Nat.{ℕ, _<_}
 use native.Mathlib.Omega.{arith}
+use lib.ListN.{drop}
 use borrow.Author.Tests.{eq-eqb, ne-eqb}
 use borrow.Author.Needs.{needs}
+use Rattle.mask.specs.Masks.{nodes, steps}
+use Rattle.mask.proofs.Sets.{node-small, nodes-none}
 use Rattle.packing.specs.Packing.{waits-by}
-use Rattle.serving.specs.Serving.{pending-in, waiting-in, attend-node, attend-below, attend-by, Attended-below}
-use Rattle.serving.proofs.Waits.{waiting-small, attended-start, attended-next}
+use Rattle.mask.proofs.Steps.{steps-next, steps-end}
+use Rattle.serving.specs.Serving.{pending-in, waiting-in, attend-below, attend-in, attend-by}
+use Rattle.serving.proofs.Attends.{in-node, in-none, attends, quiet-nodes, nodes-once}
+use Rattle.serving.proofs.Waits.{waiting-small, Attending, attending-as, attending-start, attending-past, attending-next, attending-end}
 use Rattle.serving.proofs.attend.Statement.{statement}
 use Rattle.serving.proofs.attend.Tie as tie
 
 abbrev Inv-loop : tie.InvT-loop
-Inv-loop processes tell conditions slots decider node queuefirst queue from cue unmet comes busy round offset come told u due₀ wait₀ waitend₀ n₀ due wait waitend n =
-    (n ≤ slots) × (due ≡ attend-below told u (pending-in processes tell conditions decider node queuefirst queue from cue unmet comes u) busy round offset n due₀)
-    × Attended-below told u busy queuefirst slots n (waiting-in processes tell conditions decider node queuefirst queue from cue unmet comes u) wait₀ waitend₀ wait waitend
+Inv-loop processes tell conditions slots decider node queuefirst queue from cue unmet comes busy round offset come told u new due₀ wait₀ waitend₀ left₀ due wait waitend left =
+    let p = pending-in processes tell conditions decider node queuefirst queue from cue unmet comes u in
+    (left < 256) × (steps (attend-in told u p busy round offset slots) (nodes left) due ≡ attend-below told u p busy round offset slots due₀)
+    × Attending queuefirst slots told u busy (waiting-in processes tell conditions decider node queuefirst queue from cue unmet comes u) wait₀ waitend₀ (nodes left) wait waitend
 
 abbrev μ-loop : tie.MeasureT-loop
-μ-loop processes tell conditions slots decider node queuefirst queue from cue unmet comes busy round offset come told u due₀ wait₀ waitend₀ n₀ due wait waitend n =
-    slots - n
+μ-loop processes tell conditions slots decider node queuefirst queue from cue unmet comes busy round offset come told u new due₀ wait₀ waitend₀ left₀ due wait waitend left =
+    left
 
 -- the messages that wait at each node, which are those of edges
 abbrev messages : tie.Start Inv-loop μ-loop → ℕ → List ℕ
@@ -36,39 +43,58 @@ unfolding attend-by
 returns c = (rw (ne-eqb _ _ (c .if1 .taken)) refl, record { all = λ q. absurd (c .if1 .taken q); none = λ d. (refl, refl) })
 
 loop-holds : tie.Need-loop-holds Inv-loop μ-loop
-unfolding attend-below
 loop-holds c =
     let s = c .before in
     let a = s .args in
-    (omega arith, refl, attended-start (a .queuefirst .now) (a .slots) (s .pre .12) (a .told) (a .u) (a .busy .now) (messages s) (small s) (s .pre .0) (a .wait .now) (a .waitend .now) (s .pre .13))
+    let p = (pending-in (a .processes) (a .tell) (a .conditions) (a .decider .now) (a .node .now) (a .queuefirst .now) (a .queue .now) (a .from .now) (a .cue .now) (a .unmet .now) (a .comes .now) (a .u)) in (
+      s .pre .12,
+      attends (a .told) (a .u) p (a .busy .now) (a .round) (a .offset .now) (a .slots) (a .new) (s .pre .13) (a .due .now) (s .pre .0),
+      attending-start (a .queuefirst .now) (a .slots) (s .pre .14) (a .told) (a .u) (a .busy .now) (messages s) (small s) (s .pre .0) (a .wait .now) (a .waitend .now) (nodes (a .new)) (s .pre .15) (quiet-nodes (a .told) (a .u) (a .busy .now) (a .slots) (a .new) (s .pre .13) (s .pre .0)),
+    )
+
+lowest-node-requires : tie.Need-lowest-node-requires Inv-loop μ-loop
+lowest-node-requires c κs = (omega (arith, c .loop-test .taken), c .before .loop .inv .0)
+
+cast-n : tie.Need-cast-n Inv-loop μ-loop
+cast-n c = search needs
 
 attend-node-requires : tie.Need-attend-node-requires Inv-loop μ-loop
 attend-node-requires c κs =
-    let i = c .before .before .before in
-    let l = i .before in
+    let t = c .before .before .before in
+    let w = t .before in
+    let l = w .before .before in
     let s = l .before .before .pre in
-    (omega (arith, s .0, i .loop-test .taken), s .1, s .2, s .3, s .4, s .5, s .6, s .7, s .8, s .9 (l .loop .n) (i .loop-test .taken), s .10, s .11, s .12 (l .loop .n) (i .loop-test .taken), l .loop .inv .2 .roomy .wait-long)
+    (node-small (l .loop .left) (w .lowest-node .result) (w .lowest-node .ensures), s .1, s .2, s .3, s .4, s .5, s .6, s .7, s .8, s .9 (w .lowest-node .result) (t .if2 .taken), s .10, s .11, s .14 (w .lowest-node .result) (t .if2 .taken), l .loop .inv .2 .roomy .wait-long)
 
-add-n : tie.Need-add-n Inv-loop μ-loop
-add-n c = search needs
+without-lowest-node-requires : tie.Need-without-lowest-node-requires Inv-loop μ-loop
+without-lowest-node-requires c κs =
+    let i = c .before .before in
+    (omega (arith, i .loop-test .taken), i .before .loop .inv .0)
 
 loop-less : tie.Need-loop-less Inv-loop μ-loop
-loop-less c = search needs
+loop-less c = omega (arith, c .without-lowest-node .ensures .1)
 
 loop-again : tie.Need-loop-again Inv-loop μ-loop
-unfolding attend-below
 loop-again c =
-    let i = c .before .before .before .before in
-    let l = i .before in
+    let j = c .before in
+    let w = j .before in
+    let l = w .before .before in
     let s = l .before .before in
     let a = s .args in
-    let p = pending-in (a .processes) (a .tell) (a .conditions) (a .decider .now) (a .node .now) (a .queuefirst .now) (a .queue .now) (a .from .now) (a .cue .now) (a .unmet .now) (a .comes .now) (a .u) in
-    let n = l .loop .n in (
-      omega arith,
-      c .attend-node .ensures .0
-          ∙ ap (attend-node (a .told) (a .u) p (a .busy .now) (a .round) (a .offset .now) n) (l .loop .inv .1)
-          ∙ ap (λ (k : ℕ). attend-below (a .told) (a .u) p (a .busy .now) (a .round) (a .offset .now) k (a .due .now)) (sym (add-one n)),
-      attended-next (a .queuefirst .now) (a .slots) (s .pre .12) (a .told) (a .u) (a .busy .now) (messages s) (small s) (s .pre .0) (a .wait .now) (a .waitend .now) n (l .loop .wait) (l .loop .waitend) _ _ (i .loop-test .taken) (l .loop .inv .2) (c .attend-node .ensures .1),
+    let p = (pending-in (a .processes) (a .tell) (a .conditions) (a .decider .now) (a .node .now) (a .queuefirst .now) (a .queue .now) (a .from .now) (a .cue .now) (a .unmet .now) (a .comes .now) (a .u)) in
+    let n = w .lowest-node .result in
+    let one = attend-in (a .told) (a .u) p (a .busy .now) (a .round) (a .offset .now) (a .slots) in
+    let h = subst (λ (ns : List ℕ). Attending (a .queuefirst .now) (a .slots) (a .told) (a .u) (a .busy .now) (messages s) (a .wait .now) (a .waitend .now) ns (l .loop .wait) (l .loop .waitend)) (w .lowest-node .ensures) (l .loop .inv .2) in
+    let e : j .if2 .due ≡ one n (l .loop .due) =
+    ⊎-elim (λ t. t .5 ∙ t .4 .ensures .0 ∙ sym (in-node (a .told) (a .u) p (a .busy .now) (a .round) (a .offset .now) (a .slots) n (l .loop .due) (t .0 .taken)))
+    (λ t. t .1 ∙ sym (in-none (a .told) (a .u) p (a .busy .now) (a .round) (a .offset .now) (a .slots) n (l .loop .due) (t .0 .left))) (j .if2 .came) in (
+      omega (arith, c .without-lowest-node .ensures .1, l .loop .inv .0),
+      (λ i. steps one (c .without-lowest-node .ensures .0 i) (e i)) ∙ steps-next one (l .loop .left) n (l .loop .due) (w .lowest-node .ensures) ∙ l .loop .inv .1,
+      subst (λ (ns : List ℕ). Attending (a .queuefirst .now) (a .slots) (a .told) (a .u) (a .busy .now) (messages s) (a .wait .now) (a .waitend .now) ns (j .if2 .wait) (j .if2 .waitend)) (sym (c .without-lowest-node .ensures .0))
+          (⊎-elim
+          (λ t. attending-as (t .6) (t .7) (attending-next (a .queuefirst .now) (a .slots) (s .pre .14) (a .told) (a .u) (a .busy .now) (messages s) (small s) (s .pre .0) (a .wait .now) (a .waitend .now) n (drop 1 (nodes (l .loop .left))) (l .loop .wait) (l .loop .waitend) _ _ (t .0 .taken) (nodes-once (l .loop .left) n (drop 1 (nodes (l .loop .left))) (w .lowest-node .ensures)) h (t .4 .ensures .1)))
+          (λ t. attending-as (t .2) (t .3) (attending-past (a .queuefirst .now) (a .slots) (s .pre .14) (a .told) (a .u) (a .busy .now) (messages s) (small s) (s .pre .0) (a .wait .now) (a .waitend .now) n (drop 1 (nodes (l .loop .left))) (l .loop .wait) (l .loop .waitend) (λ o. absurd (omega (arith, t .0 .left))) h))
+          (j .if2 .came)),
     )
 
 returns-2 : tie.Need-returns-2 Inv-loop μ-loop
@@ -77,11 +103,14 @@ returns-2 c =
     let l = c .before in
     let s = l .before .before in
     let a = s .args in
-    let q : l .loop .n ≡ a .slots = omega (arith, l .loop .inv .0, c .loop-test .left) in
-    let p = pending-in (a .processes) (a .tell) (a .conditions) (a .decider .now) (a .node .now) (a .queuefirst .now) (a .queue .now) (a .from .now) (a .cue .now) (a .unmet .now) (a .comes .now) (a .u) in
-    let e = l .before .if1 .left in (
-      rw (eq-eqb _ _ e) (l .loop .inv .1 ∙ ap (λ (k : ℕ). attend-below (a .told) (a .u) p (a .busy .now) (a .round) (a .offset .now) k (a .due .now)) q),
-      record { all = λ z. subst (λ (k : ℕ). Attended-below (a .told) (a .u) (a .busy .now) (a .queuefirst .now) (a .slots) k (messages s) (a .wait .now) (a .waitend .now) (l .loop .wait) (l .loop .waitend)) q (l .loop .inv .2); none = λ d. absurd (d e) },
+    let p = (pending-in (a .processes) (a .tell) (a .conditions) (a .decider .now) (a .node .now) (a .queuefirst .now) (a .queue .now) (a .from .now) (a .cue .now) (a .unmet .now) (a .comes .now) (a .u)) in
+    let e = l .before .if1 .left in
+    let z : l .loop .left ≡ 0 = omega (arith, c .loop-test .left) in (
+      rw (eq-eqb _ _ e) (steps-end (attend-in (a .told) (a .u) p (a .busy .now) (a .round) (a .offset .now) (a .slots)) (l .loop .left) (l .loop .due) z ∙ l .loop .inv .1),
+      record {
+        all = λ q. attending-end (a .queuefirst .now) (a .slots) (s .pre .14) (a .told) (a .u) (a .busy .now) (messages s) (small s) (s .pre .0) (a .wait .now) (a .waitend .now) (nodes (l .loop .left)) (l .loop .wait) (l .loop .waitend) (ap nodes z ∙ nodes-none) (l .loop .inv .2);
+        none = λ d. absurd (d e);
+      },
     )
 
 pub attend-spec : {M : Type 1} → statement M
@@ -92,8 +121,10 @@ attend-spec =
     μ-loop
     returns
     loop-holds
+    lowest-node-requires
+    cast-n
     attend-node-requires
-    add-n
+    without-lowest-node-requires
     loop-less
     loop-again
     returns-2)

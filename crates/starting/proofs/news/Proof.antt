@@ -1,15 +1,17 @@
--- `starting::news` meets its contract: the mask of either of two tests has the nodes that pass one of them.
+-- `starting::news` meets its contract: the bits of either of two masks are those of the nodes that pass one of two tests.
 -- Assumes nothing.
 use mathlib.Core.Path.{_≡_, sym, ap, _∙_, subst}
 use mathlib.Core.Bool.{Bool, _||_}
 use Prim.Native.Nat.{ℕ, _<_}
+use native.Mathlib.Nat.{zero-add}
 use native.Mathlib.Omega.{arith}
 use lib.Bits.{bitOr}
 use lib.Dec.{eqb}
 use lib.ListN.{getD}
 use borrow.Author.Needs.{needs}
-use Rattle.mask.specs.Masks.{nodes, mask-from}
-use Rattle.mask.proofs.Built.{built-nodes, built-small, built-either}
+use Rattle.model.specs.Listing.{bit}
+use Rattle.mask.specs.Masks.{mask-from}
+use Rattle.mask.proofs.Built.{built-bit, built-small, built-either}
 use Rattle.starting.specs.News.{new-at}
 use Rattle.starting.proofs.news.Statement.{statement}
 use Rattle.starting.proofs.news.Tie as tie
@@ -28,8 +30,10 @@ returns c =
     let g : ℕ → Bool = λ k. eqb (getD (a .busy .now) k 0) (a .u) in
     let p = c .before .at-clock .ensures in
     let q = c .at-clock2 .ensures in
-    let e : bitOr (c .before .at-clock .result) (c .at-clock2 .result) ≡ mask-from (λ k. f k || g k) 0 8 = (λ i. bitOr (p i) (q i)) ∙ built-either f g 0 8 in
-    (ap nodes e ∙ built-nodes (λ k. f k || g k) 8 (omega arith), subst (λ (x : ℕ). x < 256) (sym e) (built-small (λ k. f k || g k) 0 8 8 (omega arith)))
+    let e : bitOr (c .before .at-clock .result) (c .at-clock2 .result) ≡ mask-from (λ k. f k || g k) 0 8 = (λ i. bitOr (p i) (q i)) ∙ built-either f g 0 8 in (
+      subst (λ (x : ℕ). x < 256) (sym e) (built-small (λ k. f k || g k) 0 8 8 (omega arith)),
+      λ n l. ap (λ (x : ℕ). bit x n) e ∙ built-bit (λ k. f k || g k) 0 8 n l ∙ ap (λ (k : ℕ). f k || g k) (zero-add n),
+    )
 
 pub news-spec : {M : Type 1} → statement M
 news-spec = tie.close (tie.spec at-clock-requires at-clock-requires-2 returns)

@@ -31,7 +31,7 @@ returns-2 c =
     let i = c .before .before in
     let a = i .before .args in
     let o = lt-ltb (a .n) (a .slots) (i .if1 .left) in
-    let w = lt-leb (getD (a .busy .now) (a .n) 0) (a .u) (c .if2 .taken) in
+    let w = lt-leb (getD (a .busy .now) (a .n) 0) (a .u) (omega (arith, c .if2 .taken)) in
     (simp (o, w), (simp (o, w), λ before s. s))
 
 mul-a : tie.Need-mul-a
@@ -82,9 +82,9 @@ returns-3 c =
     let a = s .args in
     let e = c .before .start .ensures in
     let o = lt-ltb (a .n) (a .slots) (i .if1 .left) in
-    let w = le-leb (getD (a .busy .now) (a .n) 0) (a .u) (free .if2 .left) in (
+    let w = le-leb (getD (a .busy .now) (a .n) 0) (a .u) (omega (arith, free .if2 .left)) in (
       simp (o, w) (ap (set (a .busy .now) (a .n)) (e .0)),
-      (simp (o, w) (e .1), λ before z. soonest-next (a .slots) (a .u) before (a .busy .now) (a .first) (a .n) (c .before .start .result) (c .sooner-end .result) (i .if1 .left) (s .pre .0) (free .if2 .left) (c .sooner-end .ensures) z),
+      (simp (o, w) (e .1), λ before z. soonest-next (a .slots) (a .u) before (a .busy .now) (a .first) (a .n) (c .before .start .result) (c .sooner-end .result) (i .if1 .left) (s .pre .0) (omega (arith, free .if2 .left)) (c .sooner-end .ensures) z),
     )
 
 pub start-node-spec : {M : Type 1} → statement M

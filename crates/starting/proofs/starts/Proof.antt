@@ -1,41 +1,36 @@
 -- `starting::starts` meets its contract: the nodes that are left of those for which something is new give the whole answer.
 -- Assumes nothing.
-use mathlib.Core.Path.{_≡_, refl, sym, ap, _∙_}
-use mathlib.Core.List.{List, _∷_}
-use Prim.Native.Nat.{ℕ, _<_}
+use mathlib.Core.Path.{_≡_, ap, _∙_}
+use Prim.Native.Nat.{_<_}
 use native.Mathlib.Omega.{arith}
-use lib.ListN.{length, drop}
+use lib.ListN.{length}
 use borrow.Author.Needs.{needs}
-use Rattle.mask.specs.Masks.{nodes}
-use Rattle.mask.proofs.Sets.{node-small, nodes-none}
+use Rattle.mask.specs.Masks.{nodes, steps}
+use Rattle.mask.proofs.Sets.{node-small}
+use Rattle.mask.proofs.Steps.{steps-next, steps-end}
 use Rattle.starting.specs.Starting.{Ends, starts-by}
-use Rattle.starting.specs.News.{start-in, start-each, Soonest}
+use Rattle.starting.specs.News.{start-in, Soonest}
 use Rattle.starting.proofs.Fresh.{news-start, soonest-none}
 use Rattle.starting.proofs.starts.Statement.{statement}
 use Rattle.starting.proofs.starts.Tie as tie
 
 abbrev Inv-loop : tie.InvT-loop
-Inv-loop processes slots remote from cue unmet run several intofirst into turnfirst turn ticks u stirred busy₀ comes₀ first₀ left₀ busy comes first left =
+Inv-loop processes slots remote from cue unmet run several intofirst into turnfirst turn ticks u new busy₀ comes₀ first₀ left₀ busy comes first left =
     (left < 256)
-    × (start-each processes remote from cue unmet run several intofirst into u turnfirst turn ticks slots (nodes left) (record { busy = busy; comes = comes })
+    × (steps (start-in processes remote from cue unmet run several intofirst into u turnfirst turn ticks slots) (nodes left) (record { busy = busy; comes = comes })
     ≡ starts-by processes remote from cue unmet run several intofirst into u turnfirst turn ticks slots (record { busy = busy₀; comes = comes₀ }))
     × (length busy₀ ≡ 8 → Soonest slots u busy₀ busy first)
 
 abbrev μ-loop : tie.MeasureT-loop
-μ-loop processes slots remote from cue unmet run several intofirst into turnfirst turn ticks u stirred busy₀ comes₀ first₀ left₀ busy comes first left =
+μ-loop processes slots remote from cue unmet run several intofirst into turnfirst turn ticks u new busy₀ comes₀ first₀ left₀ busy comes first left =
     left
-
-news-requires : tie.Need-news-requires Inv-loop μ-loop
-news-requires c κs = search needs
 
 loop-holds : tie.Need-loop-holds Inv-loop μ-loop
 loop-holds c =
-    let s = c .before .before in
-    let a = s .args in
-    let z : Ends = record { busy = a .busy .now; comes = a .comes .now } in (
-      c .news .ensures .1,
-      ap (λ (ns : List ℕ). start-each (a .processes) (a .remote .now) (a .from .now) (a .cue .now) (a .unmet .now) (a .run .now) (a .several .now) (a .intofirst .now) (a .into .now) (a .u) (a .turnfirst .now) (a .turn .now) (a .ticks .now) (a .slots) ns z) (c .news .ensures .0)
-          ∙ news-start (a .processes) (a .remote .now) (a .from .now) (a .cue .now) (a .unmet .now) (a .run .now) (a .several .now) (a .intofirst .now) (a .into .now) (a .u) (a .turnfirst .now) (a .turn .now) (a .ticks .now) (a .slots) (a .stirred .now) (a .busy .now) (a .comes .now) (s .pre .5) (s .pre .8) (s .pre .0),
+    let s = c in
+    let a = s .args in (
+      s .pre .8,
+      news-start (a .processes) (a .remote .now) (a .from .now) (a .cue .now) (a .unmet .now) (a .run .now) (a .several .now) (a .intofirst .now) (a .into .now) (a .u) (a .turnfirst .now) (a .turn .now) (a .ticks .now) (a .slots) (a .new) (a .busy .now) (a .comes .now) (s .pre .5) (s .pre .9) (s .pre .0),
       soonest-none (a .slots) (a .u) (a .busy .now),
     )
 
@@ -49,7 +44,7 @@ start-node-requires : tie.Need-start-node-requires Inv-loop μ-loop
 start-node-requires c κs =
     let w = c .before .before in
     let l = w .before .before in
-    let s = l .before .before .before .pre in
+    let s = l .before .pre in
     (node-small (l .loop .left) (w .lowest-node .result) (w .lowest-node .ensures), s .1, s .2, s .3, s .4, s .5, s .6, s .7)
 
 without-lowest-node-requires : tie.Need-without-lowest-node-requires Inv-loop μ-loop
@@ -61,32 +56,27 @@ loop-less : tie.Need-loop-less Inv-loop μ-loop
 loop-less c = omega (arith, c .without-lowest-node .ensures .1)
 
 loop-again : tie.Need-loop-again Inv-loop μ-loop
-unfolding start-each
 loop-again c =
     let b = c .before in
     let w = b .before .before .before in
     let l = w .before .before in
-    let a = l .before .before .before .args in
-    let m = l .loop .left in
+    let a = l .before .args in
     let e = b .start-node .ensures in
-    let each = start-each (a .processes) (a .remote .now) (a .from .now) (a .cue .now) (a .unmet .now) (a .run .now) (a .several .now) (a .intofirst .now) (a .into .now) (a .u) (a .turnfirst .now) (a .turn .now) (a .ticks .now) (a .slots) in
-    let one = start-in (a .processes) (a .remote .now) (a .from .now) (a .cue .now) (a .unmet .now) (a .run .now) (a .several .now) (a .intofirst .now) (a .into .now) (a .u) (a .turnfirst .now) (a .turn .now) (a .ticks .now) (a .slots) (w .lowest-node .result) in
+    let one = start-in (a .processes) (a .remote .now) (a .from .now) (a .cue .now) (a .unmet .now) (a .run .now) (a .several .now) (a .intofirst .now) (a .into .now) (a .u) (a .turnfirst .now) (a .turn .now) (a .ticks .now) (a .slots) in
     let z : Ends = record { busy = l .loop .busy; comes = l .loop .comes } in (
       omega (arith, c .without-lowest-node .ensures .1, l .loop .inv .0),
-      (λ i. each (c .without-lowest-node .ensures .0 i) (record { busy = e .0 i; comes = e .1 .0 i }))
-          ∙ ap (λ (ns : List ℕ). each ns z) (sym (w .lowest-node .ensures))
+      (λ i. steps one (c .without-lowest-node .ensures .0 i) (record { busy = e .0 i; comes = e .1 .0 i }))
+          ∙ steps-next one (l .loop .left) (w .lowest-node .result) z (w .lowest-node .ensures)
           ∙ l .loop .inv .1,
       λ h. e .1 .1 (a .busy .now) (l .loop .inv .2 h),
     )
 
 returns : tie.Need-returns Inv-loop μ-loop
-unfolding start-each
 returns c =
     let l = c .before in
-    let a = l .before .before .before .args in
+    let a = l .before .args in
     let z : Ends = record { busy = l .loop .busy; comes = l .loop .comes } in
-    let q : l .loop .left ≡ 0 = omega (arith, c .loop-test .left) in
-    let e = ap (λ (ns : List ℕ). start-each (a .processes) (a .remote .now) (a .from .now) (a .cue .now) (a .unmet .now) (a .run .now) (a .several .now) (a .intofirst .now) (a .into .now) (a .u) (a .turnfirst .now) (a .turn .now) (a .ticks .now) (a .slots) ns z) (sym (ap nodes q ∙ nodes-none)) ∙ l .loop .inv .1 in
+    let e = steps-end (start-in (a .processes) (a .remote .now) (a .from .now) (a .cue .now) (a .unmet .now) (a .run .now) (a .several .now) (a .intofirst .now) (a .into .now) (a .u) (a .turnfirst .now) (a .turn .now) (a .ticks .now) (a .slots)) (l .loop .left) z (omega (arith, c .loop-test .left)) ∙ l .loop .inv .1 in
     (ap (λ (s : Ends). s .busy) e, (ap (λ (s : Ends). s .comes) e, l .loop .inv .2))
 
 pub starts-spec : {M : Type 1} → statement M
@@ -95,7 +85,6 @@ starts-spec =
     (tie.spec
     Inv-loop
     μ-loop
-    news-requires
     loop-holds
     lowest-node-requires
     cast-n

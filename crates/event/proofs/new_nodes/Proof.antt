@@ -1,0 +1,18 @@
+-- `event::new_nodes` meets its contract: the mask is worked out where a row is over at the clock.
+-- Assumes nothing.
+use native.Mathlib.Omega.{arith}
+use borrow.Author.Needs.{needs}
+use Rattle.event.proofs.new_nodes.Statement.{statement}
+use Rattle.event.proofs.new_nodes.Tie as tie
+
+returns : tie.Need-returns
+returns c = (omega arith, λ q. absurd (c .if1 .taken q))
+
+news-requires : tie.Need-news-requires
+news-requires c κs = search needs
+
+returns-2 : tie.Need-returns-2
+returns-2 c = (c .news .ensures .0, λ q. c .news .ensures .1)
+
+pub new-nodes-spec : {M : Type 1} → statement M
+new-nodes-spec = tie.close (tie.spec returns news-requires returns-2)
