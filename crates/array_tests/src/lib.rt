@@ -37,7 +37,7 @@ pub fn any_not_below(xs: &[u32], n: usize, bound: usize) -> bool
     false
 }
 
-// No number seen yet.
+// No pair seen yet.
 fn no_marks() -> [u8; 4096]
     ensures { λ r. ⌜ r ≡ replicate 4096 0 ⌝ }
 {
@@ -63,13 +63,34 @@ pub fn any_repeat<'a>(high: &'a [u32], low: &'a [u32], n: usize) -> bool
     false
 }
 
+// Number i stands among those before it.
+fn stands_before(xs: &[u32], i: usize) -> bool
+    requires { ⌜ i < length (now xs) ⌝ }
+    ensures { λ r. ⌜ r ≡ earlier (at (now (xs .entry))) i ⌝ }
+{
+    let mut j: usize = 0;
+    while j < i {
+        if xs[j] == xs[i] {
+            return true;
+        }
+        j += 1;
+    }
+    false
+}
+
 // Among the first n numbers, each below 64 and at most eight of them, one stands twice.
 pub fn any_twice(xs: &[u32], n: usize) -> bool
     requires { ⌜ n ≤ length (now xs) ⌝ ∗ ⌜ n ≤ 8 ⌝ ∗ ⌜ ((i : ℕ) → i < n → getD (now xs) i 0 < 64) ⌝ }
     ensures { λ r. ⌜ r ≡ any (earlier (at (now (xs .entry)))) (below n) ⌝ }
 {
-    let none = [0u32; 8];
-    any_repeat(&none, xs, n)
+    let mut i: usize = 0;
+    while i < n {
+        if stands_before(xs, i) {
+            return true;
+        }
+        i += 1;
+    }
+    false
 }
 
 // Some edge's `from` is not below its `to`.

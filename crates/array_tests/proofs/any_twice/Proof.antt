@@ -1,26 +1,60 @@
--- `array_tests::any_twice` meets its contract: with zeros before them, numbers are their own pairs.
+-- `array_tests::any_twice` meets its contract: what is left gives the whole answer.
 -- Assumes nothing.
-use mathlib.Core.Path.{ap, fun-ext, _∙_}
-use Prim.Native.Nat.{ℕ}
-use native.Mathlib.Omega.{arith}
-use Rattle.lists.specs.Lists.{any, below, earlier}
-use Rattle.lists.proofs.Fill.{zeros-at}
-use Rattle.plan.specs.Refusing.{key}
+use mathlib.Core.Path.{sym, _∙_}
+use Prim.Native.Nat.{_≤_, _-_}
+use Rattle.lists.specs.Lists.{earlier}
+use Rattle.lists.proofs.Loops.{Left, left-start, left-next, left-found, left-none}
+use Rattle.plan.specs.Refusing.{at}
 use borrow.Author.Needs.{needs}
 use Rattle.array_tests.proofs.any_twice.Statement.{statement}
 use Rattle.array_tests.proofs.any_twice.Tie as tie
 
-slice-aggregate-any-repeat : tie.Need-slice-aggregate-any-repeat
-slice-aggregate-any-repeat c = search needs
+abbrev Inv-loop : tie.InvT-loop
+Inv-loop xs n i₀ i = (i ≤ n) × Left (earlier (at xs)) n i
 
-any-repeat-requires : tie.Need-any-repeat-requires
-any-repeat-requires c κs = (search needs, (search needs, λ i l. (omega (arith, zeros-at 8 i), c .before .before .pre .1 .1 i l)))
+abbrev μ-loop : tie.MeasureT-loop
+μ-loop xs n i₀ i = n - i
 
-returns : tie.Need-returns
-unfolding key
+loop-holds : tie.Need-loop-holds Inv-loop μ-loop
+loop-holds c = let a = c .before .args in (search needs, left-start (earlier (at (a .xs .now))) (a .n))
+
+stands-before-requires : tie.Need-stands-before-requires Inv-loop μ-loop
+stands-before-requires c κs = search needs
+
+returns : tie.Need-returns Inv-loop μ-loop
 returns c =
-    let n = c .before .before .before .args .n in
-    c .any-repeat .ensures ∙ ap (λ (f : ℕ → ℕ). any (earlier f) (below n)) (fun-ext (λ i. omega (arith, zeros-at 8 i)))
+    let a = c .before .before .before .before .before .args in
+    let l = c .before .before .before .loop in
+    sym (left-found (earlier (at (a .xs .now))) (a .n) (l .i) (search needs) (sym (c .before .stands-before .ensures) ∙ c .if1 .taken) (l .inv .1))
+
+add-i : tie.Need-add-i Inv-loop μ-loop
+add-i c = search needs
+
+loop-less : tie.Need-loop-less Inv-loop μ-loop
+loop-less c = search needs
+
+loop-again : tie.Need-loop-again Inv-loop μ-loop
+loop-again c =
+    let a = c .before .before .before .before .before .args in
+    let l = c .before .before .before .loop in
+    (search needs, left-next (earlier (at (a .xs .now))) (a .n) (l .i) (search needs) (sym (c .before .stands-before .ensures) ∙ c .if1 .left) (l .inv .1))
+
+returns-2 : tie.Need-returns-2 Inv-loop μ-loop
+returns-2 c =
+    let a = c .before .before .before .args in
+    let l = c .before .loop in
+    sym (left-none (earlier (at (a .xs .now))) (a .n) (l .i) (search needs) (l .inv .1))
 
 pub any-twice-spec : {M : Type 1} → statement M
-any-twice-spec = tie.close (tie.spec slice-aggregate-any-repeat any-repeat-requires returns)
+any-twice-spec =
+    tie.close
+    (tie.spec
+    Inv-loop
+    μ-loop
+    loop-holds
+    stands-before-requires
+    returns
+    add-i
+    loop-less
+    loop-again
+    returns-2)
