@@ -12,7 +12,7 @@ use lib.Pow.{pow-pos}
 use Rattle.lists.specs.Lists.{if_then_else_, keep, upfrom, below}
 use Rattle.lists.proofs.Keep.{shift}
 use Rattle.model.specs.Listing.{bit}
-use Rattle.mask.specs.Masks.{members, nodes, under, mask-from}
+use Rattle.mask.specs.Masks.{members, under, mask-from}
 
 -- the lowest bit of a mask, and the rest
 pub under-low : (b : Bool) (m : ℕ) → under b m % 2 ≡ (if b then 1 else 0)
@@ -67,17 +67,10 @@ keep-within f g a (suc n) (suc size) l same out =
     λ i. if same a (omega arith) (omega arith) i then (a ∷ r i) else r i
 
 -- a mask built from a test has the numbers that pass it
-built-within : (f : ℕ → Bool) (n size : ℕ) → n ≤ size → keep (bit (mask-from f 0 n)) (below size) ≡ keep f (below n)
-built-within f n size l =
-    keep-within f (bit (mask-from f 0 n)) 0 n size l (λ k lo hi. built-bit f 0 n k (omega arith) ∙ ap f (zero-add k)) (λ k h. built-beyond f 0 n k (omega arith))
-
 pub built-members : (f : ℕ → Bool) (n : ℕ) → n ≤ 6 → members (mask-from f 0 n) ≡ keep f (below n)
 unfolding members
-built-members f n l = built-within f n 6 l
-
-pub built-nodes : (f : ℕ → Bool) (n : ℕ) → n ≤ 8 → nodes (mask-from f 0 n) ≡ keep f (below n)
-unfolding nodes
-built-nodes f n l = built-within f n 8 l
+built-members f n l =
+    keep-within f (bit (mask-from f 0 n)) 0 n 6 l (λ k lo hi. built-bit f 0 n k (omega arith) ∙ ap f (zero-add k)) (λ k h. built-beyond f 0 n k (omega arith))
 
 -- a mask of n bits fits into as many or more
 pub built-small : (f : ℕ → Bool) (a n size : ℕ) → n ≤ size → mask-from f a n < 2 ^ size
