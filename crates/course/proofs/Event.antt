@@ -34,9 +34,9 @@ use Rattle.timetable.specs.Bus.{beginning-at}
 use Rattle.starting.specs.Starting.{Ends, starts-by}
 use Rattle.starting.proofs.Ends.{busy-later, busy-rows}
 use Rattle.starting.proofs.Links.{After, starts-link}
-use Rattle.packing.specs.Packing.{Load, send-by, told-by, pending-by}
-use Rattle.packing.specs.Items.{Items}
-use Rattle.packing.proofs.Links.{pending-link, send-held, send-short, send-either, send-untold, send-processes}
+use Rattle.slot_items.specs.Packing.{Load, send-by, told-by, pending-by}
+use Rattle.slot_items.specs.Items.{Items}
+use Rattle.slot_items.proofs.Links.{pending-link, send-held, send-short, send-either, send-untold, send-processes}
 use Rattle.board.specs.declared.Board.{Board}
 use Rattle.board.specs.Board.{Boarded}
 use Rattle.serving.specs.Serving.{Bus, bus, filled, fill-by, pending-in}

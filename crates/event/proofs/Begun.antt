@@ -16,7 +16,7 @@ use Rattle.readiness.specs.Reading.{part}
 use Rattle.starting.specs.Starting.{Ends, first-of, end-after, rows-after, can-start, choice, start-by, starts-by}
 use Rattle.starting.proofs.Picks.{part-in, First, no-first, a-first, the-first, first-none}
 use Rattle.starting.proofs.Ends.{set-there}
-use Rattle.packing.proofs.Rows.{set-either}
+use Rattle.slot_items.proofs.Rows.{set-either}
 use Rattle.board.specs.declared.Board.{Board}
 use Rattle.event.specs.Course.{Fits}
 

@@ -17,9 +17,9 @@ use Rattle.lists.proofs.Members.{keep-in, below-in}
 use Rattle.mask.specs.Masks.{members, mask-from}
 use Rattle.mask.proofs.Built.{built-members}
 use Rattle.readiness.specs.Reading.{part}
-use Rattle.packing.specs.Packing.{Load, load, tells-by, waits-by, pending-by, laid, passed, tried, tell-all, all-told, try-send, send-all, tells-sent, told-by, send-by}
-use Rattle.packing.proofs.Rows.{set-either}
-use Rattle.packing.proofs.Left.{waits-free, tells-free, send-long}
+use Rattle.slot_items.specs.Packing.{Load, load, tells-by, waits-by, pending-by, laid, passed, tried, tell-all, all-told, try-send, send-all, tells-sent, told-by, send-by}
+use Rattle.slot_items.proofs.Rows.{set-either}
+use Rattle.slot_items.proofs.Left.{waits-free, tells-free, send-long}
 use Rattle.serving.specs.Serving.{Bus, filled, pending-in, fill-by}
 
 -- the broadcasts of some conditions

@@ -21,9 +21,9 @@ use Rattle.starting.specs.Quiet.{Idle, Quiet}
 use Rattle.starting.specs.News.{new-at, Soonest}
 use Rattle.starting.proofs.Quiet.{Alike, idle-stays, starts-idle}
 use Rattle.starting.proofs.Ends.{set-there}
-use Rattle.packing.proofs.Left.{placed-row}
+use Rattle.slot_items.proofs.Left.{placed-row}
 use Rattle.board.specs.declared.Board.{Board}
-use Rattle.packing.specs.Packing.{stir-by}
+use Rattle.slot_items.specs.Packing.{stir-by}
 use Rattle.serving.specs.Serving.{no-event, Bus, bus, fill-by, due-from, attend-below, attend-by, Waiting, Roomy, Attended-all}
 use Rattle.event.specs.Course.{last-event, Moment, moment, begins-by, heard-by, begun-by, come-by, sooner-by, next-slot, event-by, hears, begins-with, serves, waiting, messages, notes, next, Fits}
 use Rattle.event.specs.Kept.{served-by, event-now, Past, past, under-way, Kept, Queued, Begins}

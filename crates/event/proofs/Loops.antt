@@ -13,7 +13,7 @@ use borrow.Author.Tests.{le-leb, lt-leb, leb-true}
 use Rattle.lists.specs.Lists.{if_then_else_}
 use Rattle.lists.proofs.Parts.{drop-one}
 use Rattle.timetable.specs.Bus.{beginning-at}
-use Rattle.packing.specs.Packing.{Load}
+use Rattle.slot_items.specs.Packing.{Load}
 use Rattle.board.specs.declared.Board.{Board}
 use Rattle.serving.specs.Serving.{Bus, bus, filled, fill-by}
 use Rattle.event.specs.Course.{last-event, Moment, slot-at-by, serve-by, come-by, next-slot, nearer-by, event-by, hears, begins-with, serves, waiting, notes, moves, next, Fits}

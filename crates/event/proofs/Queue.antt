@@ -13,8 +13,8 @@ use Rattle.lists.specs.Lists.{if_then_else_}
 use Rattle.lists.proofs.Tests.{two}
 use Rattle.lists.proofs.Members.{keep-in}
 use Rattle.readiness.specs.Reading.{part}
-use Rattle.packing.specs.Packing.{Load, waits-by, stir-all, stir-each, stir-by, send-by}
-use Rattle.packing.proofs.Left.{taken-by, waiting-by, stirs-by, left-pending}
+use Rattle.slot_items.specs.Packing.{Load, waits-by, stir-all, stir-each, stir-by, send-by}
+use Rattle.slot_items.proofs.Left.{taken-by, waiting-by, stirs-by, left-pending}
 use Rattle.board.specs.declared.Board.{Board}
 use Rattle.serving.specs.Serving.{Bus, bus, filled, told-in, taken-in, fill-with, left-with, stir-with, fill-by, pending-in, Waiting, Roomy, Served}
 use Rattle.serving.proofs.Waits.{relisted-own, relisted-other, relisted-roomy, waiting-small}

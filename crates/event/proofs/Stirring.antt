@@ -13,8 +13,8 @@ use borrow.Author.Tests.{eqb-true, eq-eqb}
 use Rattle.lists.specs.Lists.{if_then_else_}
 use Rattle.lists.proofs.Tests.{below-suc}
 use Rattle.starting.proofs.Ends.{set-there}
-use Rattle.packing.proofs.Rows.{set-either}
-use Rattle.packing.specs.Packing.{stir-all, stir-one, stir-each, stir-by}
+use Rattle.slot_items.proofs.Rows.{set-either}
+use Rattle.slot_items.specs.Packing.{stir-all, stir-one, stir-each, stir-by}
 
 -- every node is stirred
 all-either : (end n : ℕ) (s : List ℕ) (k : ℕ) → (getD (stir-all end n s) k 0 ≡ getD s k 0) ⊎ (getD (stir-all end n s) k 0 ≡ end)

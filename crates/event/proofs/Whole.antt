@@ -14,7 +14,7 @@ use Rattle.lists.proofs.Tests.{two}
 use Rattle.readiness.specs.Reading.{part}
 use Rattle.model.specs.Listing.{bit}
 use Rattle.starting.specs.News.{new-at, Soonest}
-use Rattle.packing.specs.Packing.{stir-by}
+use Rattle.slot_items.specs.Packing.{stir-by}
 use Rattle.board.specs.declared.Board.{Board}
 use Rattle.serving.specs.Serving.{Bus, bus, taken-in, fill-with, left-with, stir-with, fill-by, due-from, attend-by, Waiting, Roomy, Attended-all, Served}
 use Rattle.event.specs.Course.{last-event, Moment, moment, sooner-by, hears, begins-with, waiting, messages, notes, next, Fits}

@@ -9,7 +9,7 @@ use lib.Dec.{eqb, leb}
 use lib.ListN.{getD, set}
 use Rattle.lists.specs.Lists.{if_then_else_}
 use Rattle.timetable.specs.Bus.{beginning-at}
-use Rattle.packing.specs.Packing.{Load, load}
+use Rattle.slot_items.specs.Packing.{Load, load}
 use Rattle.serving.specs.Serving.{Bus, bus, filled}
 
 -- a choice whose test is known

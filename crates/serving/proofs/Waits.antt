@@ -16,9 +16,9 @@ use Rattle.lists.specs.Lists.{any, keep, null}
 use Rattle.lists.proofs.Members.{keep-in}
 use Rattle.readiness.specs.Reading.{part, Within}
 use Rattle.readiness.proofs.Parts.{part-end, part-next, part-in}
-use Rattle.packing.specs.Packing.{Listed}
-use Rattle.packing.proofs.Places.{part-same, listed-small}
-use Rattle.packing.proofs.Scan.{keep-some}
+use Rattle.slot_items.specs.Packing.{Listed}
+use Rattle.slot_items.proofs.Places.{part-same, listed-small}
+use Rattle.slot_items.proofs.Scan.{keep-some}
 use Rattle.serving.specs.Serving.{Waiting, Roomy, Relisted, Attended-node, Attended}
 
 -- the messages that wait are those of edges

@@ -1,10 +1,10 @@
 // What the slot of a node takes as it begins, at which nodes that arrives, and when the slot next takes something. specs/Serving.antt says the same of the arrays.
 use mask::lowest_node;
 use mask::without_lowest_node;
-use packing::find_waiting;
-use packing::has_tell;
 use packing::send;
+use telling::has_tell;
 use timetable::first_beginning;
+use waiting::find_waiting;
 ghost use mathlib.Core.Path.{_≡_};
 ghost use Prim.Native.Nat.{ℕ, _+_, _<_, _≤_};
 ghost use mathlib.Core.List.{List·Memᴰ as In};
@@ -14,7 +14,7 @@ ghost use lib.ListN.{length, getD, set};
 ghost use Rattle.lists.specs.Lists.{if_then_else_};
 ghost use Rattle.model.specs.Listing.{bit};
 ghost use Rattle.readiness.specs.Reading.{part, Within};
-ghost use Rattle.packing.specs.Packing.{Listed};
+ghost use Rattle.slot_items.specs.Packing.{Listed};
 ghost use Rattle.serving.specs.Serving.{bus, fill-with, taken-in, left-with, stir-with, Roomy, Relisted, Attended-node, Attended-all, Served, waiting-in, pending-in, due-from, attend-node, attend-by};
 
 // The end of the last slot used, and of the last one with a broadcast; whether a ready item was not taken; and the place behind the messages that are left.

@@ -3,7 +3,7 @@
 use Prim.Native.Nat.{_-_}
 use native.Mathlib.Omega.{arith}
 use borrow.Author.Needs.{needs}
-use Rattle.packing.proofs.Places.{Moving, moving-start, moving-next, moving-end}
+use Rattle.slot_items.proofs.Places.{Moving, moving-start, moving-next, moving-end}
 use Rattle.packing.proofs.move_down.Statement.{statement}
 use Rattle.packing.proofs.move_down.Tie as tie
 

@@ -6,9 +6,9 @@ use native.Mathlib.Omega.{arith}
 use lib.Dec.{ltb}
 use Rattle.mask.proofs.Built.{built-small}
 use Rattle.readiness.specs.Reading.{part}
-use Rattle.packing.specs.Packing.{Load, tells-by, all-told, take-all, left-of, stir-taken, told-by, tells-sent}
-use Rattle.packing.proofs.Scan.{told-within}
-use Rattle.packing.proofs.Places.{listed-as}
+use Rattle.slot_items.specs.Packing.{Load, tells-by, all-told, take-all, left-of, stir-taken, told-by, tells-sent}
+use Rattle.slot_items.proofs.Scan.{told-within}
+use Rattle.slot_items.proofs.Places.{listed-as}
 use borrow.Author.Needs.{needs}
 use Rattle.packing.proofs.send.Statement.{statement}
 use Rattle.packing.proofs.send.Tie as tie

@@ -7,7 +7,7 @@ use lib.ListN.{set}
 use native.Mathlib.Numerals.{add-one}
 use native.Mathlib.Omega.{arith}
 use borrow.Author.Needs.{needs}
-use Rattle.packing.specs.Packing.{stir-all}
+use Rattle.slot_items.specs.Packing.{stir-all}
 use Rattle.packing.proofs.stir_all.Statement.{statement}
 use Rattle.packing.proofs.stir_all.Tie as tie
 

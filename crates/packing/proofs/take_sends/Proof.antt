@@ -12,9 +12,9 @@ use borrow.Author.Tests.{not-true, not-false, leb-true}
 use borrow.Author.Needs.{needs}
 use Rattle.readiness.specs.Reading.{part}
 use Rattle.readiness.proofs.Parts.{in-part}
-use Rattle.packing.specs.Packing.{load}
-use Rattle.packing.proofs.Places.{listed-from}
-use Rattle.packing.proofs.Taking.{Passing, passing-start, passing-next, Taking, Done, taking-as, done-as, taking-start, taking-next, done-end, done-full, done-passed, done-moved}
+use Rattle.slot_items.specs.Packing.{load}
+use Rattle.slot_items.proofs.Places.{listed-from}
+use Rattle.slot_items.proofs.Taking.{Passing, passing-start, passing-next, Taking, Done, taking-as, done-as, taking-start, taking-next, done-end, done-full, done-passed, done-moved}
 use Rattle.packing.proofs.take_sends.Statement.{statement}
 use Rattle.packing.proofs.take_sends.Tie as tie
 

@@ -11,7 +11,7 @@ use borrow.Author.Tests.{eq-eqb, ne-eqb}
 use borrow.Author.Needs.{needs}
 use Rattle.mask.specs.Masks.{nodes, steps}
 use Rattle.mask.proofs.Sets.{node-small, nodes-none}
-use Rattle.packing.specs.Packing.{waits-by}
+use Rattle.slot_items.specs.Packing.{waits-by}
 use Rattle.mask.proofs.Steps.{steps-next, steps-end}
 use Rattle.serving.specs.Serving.{pending-in, waiting-in, attend-below, attend-in, attend-by}
 use Rattle.serving.proofs.Attends.{in-node, in-none, attends, quiet-nodes, nodes-once}

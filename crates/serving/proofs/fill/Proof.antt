@@ -10,7 +10,7 @@ use lib.ListN.{getD, set}
 use borrow.Author.Tests.{eq-eqb, ne-eqb}
 use Rattle.lists.specs.Lists.{if_then_else_}
 use Rattle.readiness.specs.Reading.{part}
-use Rattle.packing.specs.Packing.{Load, stir-all, stir-taken}
+use Rattle.slot_items.specs.Packing.{Load, stir-all, stir-taken}
 use Rattle.serving.specs.Serving.{bus, tells-in, fill-with, left-with, stir-with}
 use Rattle.serving.proofs.Loops.{when, unless, filled-parts}
 use borrow.Author.Needs.{needs}

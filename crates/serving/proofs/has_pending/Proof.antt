@@ -8,7 +8,7 @@ use native.Mathlib.Omega.{arith}
 use lib.ListN.{getD}
 use Rattle.lists.specs.Lists.{any, below}
 use Rattle.readiness.specs.Reading.{part}
-use Rattle.packing.specs.Packing.{waits-by, tells-by, pending-by}
+use Rattle.slot_items.specs.Packing.{waits-by, tells-by, pending-by}
 use Rattle.serving.specs.Serving.{pending-in}
 use Rattle.serving.proofs.Waits.{some-waits, none-waits}
 use borrow.Author.Needs.{needs}

@@ -18,8 +18,8 @@ use Rattle.lists.proofs.Different.{keep-different, different-parts, different-u
 use Rattle.mask.specs.Masks.{members, mask-from}
 use Rattle.mask.proofs.Built.{built-members}
 use Rattle.readiness.specs.Reading.{came-by, placed-by, part, message-by}
-use Rattle.packing.specs.Packing.{Load, load, tells-by, waits-by, pending-by, laid, passed, tried, tell-all, all-told, try-send, send-all, try-one, take-all, left-of, stir-taken, stir-one, stir-each, tells-sent, send-by}
-use Rattle.packing.proofs.Rows.{set-either, came-kept}
+use Rattle.slot_items.specs.Packing.{Load, load, tells-by, waits-by, pending-by, laid, passed, tried, tell-all, all-told, try-send, send-all, try-one, take-all, left-of, stir-taken, stir-one, stir-each, tells-sent, send-by}
+use Rattle.slot_items.proofs.Rows.{set-either, came-kept}
 
 again : (b : Bool) → not (not b) ≡ true → b ≡ true
 again true e = refl

@@ -12,7 +12,7 @@ use Rattle.lists.proofs.Members.{keep-in, below-in}
 use Rattle.model.specs.Listing.{bit}
 use Rattle.mask.specs.Masks.{members, mask-from}
 use Rattle.mask.proofs.Built.{built-members}
-use Rattle.packing.specs.Packing.{Load, load, laid, tell-all, all-told}
+use Rattle.slot_items.specs.Packing.{Load, load, laid, tell-all, all-told}
 
 -- a member of a mask is a condition
 pub member-small : (m k : ℕ) → members m ≡ k ∷ drop 1 (members m) → k < 6

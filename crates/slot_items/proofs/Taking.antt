@@ -11,8 +11,8 @@ use borrow.Author.Tests.{leb-true, leb-false, lt-ltb, le-ltb, le-leb, lt-leb}
 use Rattle.lists.specs.Lists.{if_then_else_}
 use Rattle.readiness.specs.Reading.{part}
 use Rattle.readiness.proofs.Parts.{part-end, part-next, part-in}
-use Rattle.packing.specs.Packing.{Load, load, laid, passed, tried, fits-in, try-one, take-all, left-of, stir-taken, Listed}
-use Rattle.packing.proofs.Places.{part-same, part-last, listed-join, listed-none, listed-small}
+use Rattle.slot_items.specs.Packing.{Load, load, laid, passed, tried, fits-in, try-one, take-all, left-of, stir-taken, Listed}
+use Rattle.slot_items.proofs.Places.{part-same, part-last, listed-join, listed-none, listed-small}
 
 module _ (processes : ℕ) (bytes : List ℕ) (room end : ℕ) (remote : List ℕ) where
   abbrev fit : ℕ → Load → Bool

@@ -1,12 +1,12 @@
--- `packing::waits` meets its contract, for a message that is sent and for one that is not.
+-- `waiting::waits` meets its contract, for a message that is sent and for one that is not.
 -- Assumes nothing.
 use native.Mathlib.Omega.{arith}
 use borrow.Author.Tests.{eq-eqb, ne-eqb}
 use Rattle.readiness.specs.Reading.{placed-by}
-use Rattle.packing.specs.Packing.{waits-by}
+use Rattle.slot_items.specs.Packing.{waits-by}
 use borrow.Author.Needs.{needs}
-use Rattle.packing.proofs.waits.Statement.{statement}
-use Rattle.packing.proofs.waits.Tie as tie
+use Rattle.waiting.proofs.waits.Statement.{statement}
+use Rattle.waiting.proofs.waits.Tie as tie
 
 add-if1 : tie.Need-add-if1
 add-if1 c = search needs

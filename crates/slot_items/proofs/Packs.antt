@@ -22,8 +22,8 @@ use Rattle.model.specs.Planning.{pack}
 use Rattle.laws.proofs.Steps.{pack-in}
 use Rattle.readiness.specs.Holding.{Held}
 use Rattle.readiness.proofs.Held.{held-put, held-same}
-use Rattle.packing.specs.Packing.{Load, laid, passed, tried}
-use Rattle.packing.proofs.Rows.{try-all}
+use Rattle.slot_items.specs.Packing.{Load, laid, passed, tried}
+use Rattle.slot_items.proofs.Rows.{try-all}
 
 keep-none : (f : Placed → Bool) (xs : Log) → ((x : Placed) → In x xs → f x ≡ false) → keep f xs ≡ []
 keep-none f xs h = keep-same f (λ x. false) xs h ∙ keep-false (λ x. false) xs (λ x. refl)

@@ -29,11 +29,11 @@ use Rattle.readiness.specs.Reading.{came-by, placed-by, part}
 use Rattle.readiness.specs.Holding.{Holds, Held, Logged}
 use Rattle.readiness.proofs.Links.{message-link, view-link}
 use Rattle.readiness.proofs.Held.{held-logged}
-use Rattle.packing.specs.Packing.{Load, load, tells-by, waits-by, pending-by, tell-all, all-told, send-all, tells-sent, told-by, send-by}
-use Rattle.packing.specs.Items.{Items}
-use Rattle.packing.proofs.Scan.{keep-some}
-use Rattle.packing.proofs.Rows.{try-all, try-append, try-other, try-either, try-kept, tells-rows, ready-kept, sends-rows}
-use Rattle.packing.proofs.Packs.{Item, packs-held, packs-short}
+use Rattle.slot_items.specs.Packing.{Load, load, tells-by, waits-by, pending-by, tell-all, all-told, send-all, tells-sent, told-by, send-by}
+use Rattle.slot_items.specs.Items.{Items}
+use Rattle.slot_items.proofs.Scan.{keep-some}
+use Rattle.slot_items.proofs.Rows.{try-all, try-append, try-other, try-either, try-kept, tells-rows, ready-kept, sends-rows}
+use Rattle.slot_items.proofs.Packs.{Item, packs-held, packs-short}
 
 -- what the slot of node n takes, in a plan's own numbers
 abbrev pub slot-load : Lines → List ℕ → List ℕ → List ℕ → List ℕ → List ℕ → List ℕ → List ℕ → ℕ → ℕ → ℕ → ℕ → ℕ → ℕ → List ℕ → List ℕ → Load

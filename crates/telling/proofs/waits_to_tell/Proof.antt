@@ -1,12 +1,12 @@
--- `packing::waits_to_tell` meets its contract, by the two tests that come before the last.
+-- `telling::waits_to_tell` meets its contract, by the two tests that come before the last.
 -- Assumes nothing.
 use borrow.Author.Tests.{eq-eqb, ne-eqb}
 use Rattle.lists.proofs.Tests.{and-false}
 use Rattle.readiness.specs.Reading.{came-by, placed-by}
-use Rattle.packing.specs.Packing.{tells-by}
+use Rattle.slot_items.specs.Packing.{tells-by}
 use borrow.Author.Needs.{needs}
-use Rattle.packing.proofs.waits_to_tell.Statement.{statement}
-use Rattle.packing.proofs.waits_to_tell.Tie as tie
+use Rattle.telling.proofs.waits_to_tell.Statement.{statement}
+use Rattle.telling.proofs.waits_to_tell.Tie as tie
 
 mul-d : tie.Need-mul-d
 mul-d c = search needs

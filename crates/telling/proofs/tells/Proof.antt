@@ -1,14 +1,14 @@
--- `packing::tells` meets its contract: at k the mask is that of the conditions from k on.
+-- `telling::tells` meets its contract: at k the mask is that of the conditions from k on.
 -- Assumes nothing.
 use mathlib.Core.Path.{_≡_, sym, ap, ap₂, _∙_}
 use Prim.Native.Nat.{ℕ, _-_, _≤_}
 use native.Mathlib.Omega.{arith}
 use Rattle.mask.specs.Masks.{under, mask-from}
 use Rattle.mask.proofs.Built.{built-small, built-start, built-step}
-use Rattle.packing.specs.Packing.{tells-by}
-use Rattle.packing.proofs.tells.Statement.{statement}
+use Rattle.slot_items.specs.Packing.{tells-by}
+use Rattle.telling.proofs.tells.Statement.{statement}
 use borrow.Author.Needs.{needs}
-use Rattle.packing.proofs.tells.Tie as tie
+use Rattle.telling.proofs.tells.Tie as tie
 
 abbrev Inv-loop : tie.InvT-loop
 Inv-loop tell conditions decider node comes n u mask₀ k₀ mask k =

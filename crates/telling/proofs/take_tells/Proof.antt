@@ -1,4 +1,4 @@
--- `packing::take_tells` meets its contract: the members of the mask that is left, in the bytes left, give the whole answer.
+-- `telling::take_tells` meets its contract: the members of the mask that is left, in the bytes left, give the whole answer.
 -- Assumes nothing.
 use mathlib.Core.Path.{_≡_, sym, ap, _∙_}
 use mathlib.Core.List.{List}
@@ -7,11 +7,11 @@ use native.Mathlib.Omega.{arith}
 use lib.Dec.{ltb}
 use lib.ListN.{length, set}
 use Rattle.mask.specs.Masks.{members}
-use Rattle.packing.specs.Packing.{load, tell-all, all-told}
-use Rattle.packing.proofs.Scan.{member-small, member-some, tell-next, tell-end}
-use Rattle.packing.proofs.take_tells.Statement.{statement}
+use Rattle.slot_items.specs.Packing.{load, tell-all, all-told}
+use Rattle.slot_items.proofs.Scan.{member-small, member-some, tell-next, tell-end}
+use Rattle.telling.proofs.take_tells.Statement.{statement}
 use borrow.Author.Needs.{needs}
-use Rattle.packing.proofs.take_tells.Tie as tie
+use Rattle.telling.proofs.take_tells.Tie as tie
 
 abbrev Inv-loop : tie.InvT-loop
 Inv-loop mask tell room end comes₀ place₀ n fits m₀ used₀ comes place m used =

@@ -16,7 +16,7 @@ use Rattle.lists.proofs.Keep.{map-upfrom, map-append, keep-append}
 use Rattle.lists.proofs.Parts.{upfrom-append}
 use Rattle.readiness.specs.Reading.{part}
 use Rattle.readiness.proofs.Parts.{part-end, part-next, in-part}
-use Rattle.packing.specs.Packing.{Listed}
+use Rattle.slot_items.specs.Packing.{Listed}
 
 pub part-same : (xs ys : List ℕ) (a b : ℕ) → ((i : ℕ) → a ≤ i → i < b → getD xs i 0 ≡ getD ys i 0) → part xs a b ≡ part ys a b
 unfolding part

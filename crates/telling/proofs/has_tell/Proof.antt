@@ -1,4 +1,4 @@
--- `packing::has_tell` meets its contract: the mask of the broadcasts is not empty.
+-- `telling::has_tell` meets its contract: the mask of the broadcasts is not empty.
 -- Assumes nothing.
 use mathlib.Core.Path.{ap, _∙_}
 use mathlib.Core.Bool.{not}
@@ -8,10 +8,10 @@ use borrow.Author.Needs.{needs}
 use Rattle.lists.specs.Lists.{null}
 use Rattle.mask.specs.Masks.{members}
 use Rattle.mask.proofs.Built.{built-small}
-use Rattle.packing.specs.Packing.{tells-by}
-use Rattle.packing.proofs.Scan.{built-some}
-use Rattle.packing.proofs.has_tell.Statement.{statement}
-use Rattle.packing.proofs.has_tell.Tie as tie
+use Rattle.slot_items.specs.Packing.{tells-by}
+use Rattle.slot_items.proofs.Scan.{built-some}
+use Rattle.telling.proofs.has_tell.Statement.{statement}
+use Rattle.telling.proofs.has_tell.Tie as tie
 
 tells-requires : tie.Need-tells-requires
 tells-requires c κs = search needs

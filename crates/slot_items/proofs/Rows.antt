@@ -16,7 +16,7 @@ use Rattle.lists.proofs.Tests.{two, both, and-false, or-false, or-right}
 use Rattle.lists.proofs.Members.{any-in, none-in}
 use Rattle.lists.proofs.Different.{different-parts}
 use Rattle.readiness.specs.Reading.{within, came-by, placed-by, message-by}
-use Rattle.packing.specs.Packing.{Load, load, waits-by, laid, passed, tried, tell-all, try-send, send-all}
+use Rattle.slot_items.specs.Packing.{Load, load, waits-by, laid, passed, tried, tell-all, try-send, send-all}
 
 -- a store leaves a place as it was, or puts its number there
 pub set-either : (xs : List ℕ) (i v r : ℕ) → (getD (set xs i v) r 0 ≡ getD xs r 0) ⊎ (getD (set xs i v) r 0 ≡ v)

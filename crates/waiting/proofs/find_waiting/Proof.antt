@@ -1,4 +1,4 @@
--- `packing::find_waiting` meets its contract: before place j, the messages that wait so far stand in order.
+-- `waiting::find_waiting` meets its contract: before place j, the messages that wait so far stand in order.
 -- Assumes nothing.
 use mathlib.Core.Path.{sym, _∙_}
 use mathlib.Core.Logic.{⊎-elim}
@@ -6,10 +6,10 @@ use Prim.Native.Nat.{_-_}
 use native.Mathlib.Omega.{arith}
 use lib.ListN.{getD}
 use borrow.Author.Needs.{needs}
-use Rattle.packing.specs.Packing.{waits-by}
-use Rattle.packing.proofs.Places.{Finding, finding-start, finding-yes, finding-no, finding-as, finding-end}
-use Rattle.packing.proofs.find_waiting.Statement.{statement}
-use Rattle.packing.proofs.find_waiting.Tie as tie
+use Rattle.slot_items.specs.Packing.{waits-by}
+use Rattle.slot_items.proofs.Places.{Finding, finding-start, finding-yes, finding-no, finding-as, finding-end}
+use Rattle.waiting.proofs.find_waiting.Statement.{statement}
+use Rattle.waiting.proofs.find_waiting.Tie as tie
 
 abbrev Inv-loop : tie.InvT-loop
 Inv-loop processes queue from cue unmet comes a b u wait₀ k₀ j₀ wait k j =

@@ -1,0 +1,1 @@
+// What a slot takes as it begins, in definitions and laws: specs/Packing.antt says it of the arrays. No code.
