@@ -137,8 +137,8 @@ fn store<'a>(
 }
 
 // Plans every combination: `comes` and `place` hold the log of combination c from place c * 198 on. Its rows that start before clock `since[c]` are taken
-// over from an earlier combination. `notes` is made of ones, since zeros would be cleared by memset, which counts an instruction a byte, and ones are stored 16
-// bytes at an instruction; none is read before its combination is stored.
+// over from an earlier combination. `notes` is of ones, which are stored by fewer instructions than zeros are (docs/PERFORMANCE.md);
+// none is read before its combination is stored.
 pub fn all_courses(
     b: Board,
     comes: &mut [u32; 12672],

@@ -118,8 +118,8 @@ fn write_both<'a>(
     true
 }
 
-// Lists the entries and the frames of the table, and writes both where the lent words suffice. The lists are made of ones, since zeros would be cleared by
-// memset, which counts an instruction a byte, and ones are stored 16 bytes at an instruction; none is read before it is stored.
+// Lists the entries and the frames of the table, and writes both where the lent words suffice. The lists are of ones, which
+// are stored by fewer instructions than zeros are (docs/PERFORMANCE.md); none is read before it is stored.
 fn write_all<'a>(
     b: Board,
     t: Totals,
@@ -161,8 +161,8 @@ fn write_all<'a>(
     Planned::Refused(11)
 }
 
-// Plans a plan in which refusals 2 to 9 find nothing. `comes` and `place` are made of ones, since zeros would be cleared by memset, which counts an instruction a
-// byte, and ones are stored 16 bytes at an instruction; none is read before its combination is stored.
+// Plans a plan in which refusals 2 to 9 find nothing. `comes` and `place` are of ones, which are stored by fewer instructions than
+// zeros are (docs/PERFORMANCE.md); none is read before its combination is stored.
 fn plan_accepted(p: Plan, table: &mut [u32], frames: &mut [u32]) -> Planned
     requires { ⌜ plan-refusal (lines p) ≡ nothing ⌝ }
     ensures { λ r. ⌜ Answers (lines p) r (now (table .entry)) (now (frames .entry)) (now (table .exit)) (now (frames .exit)) ⌝ }

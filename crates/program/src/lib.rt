@@ -42,8 +42,7 @@ fn print_planned(p: Plan, table: &mut [u32], frames: &mut [u32], out: &mut [u8])
 
 // Writes what the planning program prints for a text of any bytes to the front of the lent bytes: the listing, with 3,000 entries and 2,000 frames lent to
 // the planner, or the line of a refusal, 1 to 11. How many bytes were written; or refusal 10, where what is printed needs more bytes than lent, which
-// leaves the bytes unchanged. The lent words are made of ones, since zeros would be cleared by memset, which counts an instruction a byte,
-// and ones are stored 16 bytes at an instruction.
+// leaves the bytes unchanged. The lent words are of ones, which are stored by fewer instructions than zeros are (docs/PERFORMANCE.md).
 pub fn print_plan(text: &[u8], out: &mut [u8]) -> Listed
     ensures { λ r. ⌜ Prints (now (text .entry)) (now (out .entry)) (now (out .exit)) r ⌝ }
 {
