@@ -3,8 +3,8 @@
 use board::Board;
 use board::unmet;
 use course::course;
-use readiness::last_end;
 use resume::resume;
+use row_ends::last_end;
 ghost use mathlib.Core.Path.{_≡_};
 ghost use Prim.Native.Nat.{ℕ, max, _+_, _*_, _^_, _<_, _≤_};
 ghost use lib.ListN.{getD, length, replicate};

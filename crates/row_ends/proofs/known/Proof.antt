@@ -1,4 +1,4 @@
--- `readiness::known` meets its contract: six conditions are read with no loop; of fewer, before each turn the mask has the bits of the conditions from k on.
+-- `row_ends::known` meets its contract: six conditions are read with no loop; of fewer, before each turn the mask has the bits of the conditions from k on.
 -- Assumes nothing.
 use mathlib.Core.Path.{_≡_, ap, sym, _∙_}
 use mathlib.Core.Bool.{Bool}
@@ -6,10 +6,10 @@ use Prim.Native.Nat.{ℕ, _+_, _-_, _<_, _≤_}
 use native.Mathlib.Omega.{arith}
 use Rattle.mask.specs.Masks.{under, mask-from}
 use Rattle.mask.proofs.Built.{built-start, built-step, built-small}
 use Rattle.readiness.specs.Reading.{came-by, known-by}
-use Rattle.readiness.proofs.known.Statement.{statement}
+use Rattle.row_ends.proofs.known.Statement.{statement}
 use borrow.Author.Needs.{needs}
-use Rattle.readiness.proofs.known.Tie as tie
+use Rattle.row_ends.proofs.known.Tie as tie
 
 -- one turn
 next : (f : ℕ → Bool) (n k : ℕ) {b : Bool} {m v : ℕ} → 0 < k → k ≤ n → b ≡ f (k - 1) → m ≡ mask-from f k (n - k) → v ≡ under b m → v ≡ mask-from f (k - 1) (n - (k - 1))

@@ -1,20 +1,21 @@
--- `readiness::all_carry` meets its contract: the edges from place j on give the whole answer.
+-- `runnable::any_carry` meets its contract: the edges from place j on give the whole answer.
 -- Assumes nothing.
 use mathlib.Core.Path.{_≡_, refl, sym, ap, _∙_}
 use Prim.Native.Nat.{_-_}
 use native.Mathlib.Omega.{arith}
 use lib.ListN.{getD}
 use mathlib.Core.Bool.{not}
-use Rattle.lists.specs.Lists.{all}
+use Rattle.lists.specs.Lists.{any}
+use borrow.Author.Tests.{not-true, not-false}
 use Rattle.readiness.specs.Reading.{part, carries-by}
-use Rattle.readiness.proofs.Parts.{part-end, all-pass, all-fail}
+use Rattle.readiness.proofs.Parts.{part-end, any-pass, any-fail}
 use borrow.Author.Needs.{needs}
-use Rattle.readiness.proofs.all_carry.Statement.{statement}
-use Rattle.readiness.proofs.all_carry.Tie as tie
+use Rattle.runnable.proofs.any_carry.Statement.{statement}
+use Rattle.runnable.proofs.any_carry.Tie as tie
 
 abbrev Inv-loop : tie.InvT-loop
 Inv-loop from cue unmet comes run into a b u j₀ j =
-    all (carries-by from cue unmet comes u run) (part into a b) ≡ all (carries-by from cue unmet comes u run) (part into j b)
+    any (carries-by from cue unmet comes u run) (part into a b) ≡ any (carries-by from cue unmet comes u run) (part into j b)
 
 abbrev μ-loop : tie.MeasureT-loop
 μ-loop from cue unmet comes run into a b u j₀ j = b - j
@@ -45,7 +46,7 @@ unfolding carries-by
 returns c =
     let l = c .before .before .before .before in
     let a = l .before .args in
-    sym (l .loop .inv ∙ all-fail (a .into .now) (l .loop .j) (a .b) (c .before .before .before .loop-test .taken) (carries-by (a .from .now) (a .cue .now) (a .unmet .now) (a .comes .now) (a .u) (a .run .now)) (ap not (sym (c .before .never .ensures) ∙ c .if1 .taken)))
+    sym (l .loop .inv ∙ any-pass (a .into .now) (l .loop .j) (a .b) (c .before .before .before .loop-test .taken) (carries-by (a .from .now) (a .cue .now) (a .unmet .now) (a .comes .now) (a .u) (a .run .now)) (ap not (sym (c .before .never .ensures) ∙ not-true _ (c .if1 .taken))))
 
 add-j : tie.Need-add-j Inv-loop μ-loop
 add-j c = search needs
@@ -58,16 +59,16 @@ unfolding carries-by
 loop-again c =
     let l = c .before .before .before .before in
     let a = l .before .args in
-    l .loop .inv ∙ all-pass (a .into .now) (l .loop .j) (a .b) (c .before .before .before .loop-test .taken) (carries-by (a .from .now) (a .cue .now) (a .unmet .now) (a .comes .now) (a .u) (a .run .now)) (ap not (sym (c .before .never .ensures) ∙ c .if1 .left))
+    l .loop .inv ∙ any-fail (a .into .now) (l .loop .j) (a .b) (c .before .before .before .loop-test .taken) (carries-by (a .from .now) (a .cue .now) (a .unmet .now) (a .comes .now) (a .u) (a .run .now)) (ap not (sym (c .before .never .ensures) ∙ not-false _ (c .if1 .left)))
 
 returns-2 : tie.Need-returns-2 Inv-loop μ-loop
 returns-2 c =
     let l = c .before in
     let a = l .before .args in
-    sym (l .loop .inv ∙ ap (all (carries-by (a .from .now) (a .cue .now) (a .unmet .now) (a .comes .now) (a .u) (a .run .now))) (part-end (a .into .now) (l .loop .j) (a .b) (c .loop-test .left)))
+    sym (l .loop .inv ∙ ap (any (carries-by (a .from .now) (a .cue .now) (a .unmet .now) (a .comes .now) (a .u) (a .run .now))) (part-end (a .into .now) (l .loop .j) (a .b) (c .loop-test .left)))
 
-pub all-carry-spec : {M : Type 1} → statement M
-all-carry-spec =
+pub any-carry-spec : {M : Type 1} → statement M
+any-carry-spec =
     tie.close
     (tie.spec
     Inv-loop

@@ -1,14 +1,14 @@
--- `readiness::six_known` meets its contract: the bits add up to the mask.
+-- `row_ends::six_known` meets its contract: the bits add up to the mask.
 -- Assumes nothing.
 use mathlib.Core.Path.{_≡_, refl, ap, _∙_}
 use mathlib.Core.Bool.{Bool, true, false}
 use Prim.Native.Nat.{ℕ, _+_}
 use native.Mathlib.Omega.{arith}
 use Rattle.lists.specs.Lists.{if_then_else_}
 use Rattle.readiness.specs.Reading.{bit, came-by, known-by}
 use borrow.Author.Needs.{needs}
-use Rattle.readiness.proofs.six_known.Statement.{statement}
-use Rattle.readiness.proofs.six_known.Tie as tie
+use Rattle.row_ends.proofs.six_known.Statement.{statement}
+use Rattle.row_ends.proofs.six_known.Tie as tie
 
 -- the number of a bit, as the mask has it
 number-in : (t : Bool) {b : Bool} {n : ℕ} → b ≡ t → n ≡ bit b → n ≡ (if t then 1 else 0)

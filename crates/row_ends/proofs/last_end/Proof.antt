@@ -1,4 +1,4 @@
--- `readiness::last_end` meets its contract: the greatest so far and what is left give the whole.
+-- `row_ends::last_end` meets its contract: the greatest so far and what is left give the whole.
 -- Assumes nothing.
 use mathlib.Core.Path.{refl}
 use mathlib.Core.Bool.{true}
@@ -6,10 +6,10 @@ use Prim.Native.Nat.{_-_}
 use native.Mathlib.Omega.{arith}
 use lib.ListN.{getD}
 use Rattle.lists.proofs.Greatest.{Most, most-start, most-taken, most-whole}
 use Rattle.readiness.specs.Reading.{last-end-by}
-use Rattle.readiness.proofs.last_end.Statement.{statement}
+use Rattle.row_ends.proofs.last_end.Statement.{statement}
 use borrow.Author.Needs.{needs}
-use Rattle.readiness.proofs.last_end.Tie as tie
+use Rattle.row_ends.proofs.last_end.Tie as tie
 
 abbrev Inv-loop : tie.InvT-loop
 Inv-loop rows processes most₀ i₀ most i = Most (λ i. getD rows i 0) (λ k. true) processes i most

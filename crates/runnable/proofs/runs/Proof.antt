@@ -1,12 +1,12 @@
--- `readiness::runs` meets its contract, for a process that counts as `all` and for one that counts as `any`.
+-- `runnable::runs` meets its contract, for a process that counts as `all` and for one that counts as `any`.
 -- Assumes nothing.
 use Prim.Native.Nat.{_+_}
 use native.Mathlib.Omega.{arith}
 use borrow.Author.Tests.{eq-eqb, ne-eqb}
 use Rattle.readiness.specs.Reading.{edges-into, runs-by}
 use borrow.Author.Needs.{needs}
-use Rattle.readiness.proofs.runs.Statement.{statement}
-use Rattle.readiness.proofs.runs.Tie as tie
+use Rattle.runnable.proofs.runs.Statement.{statement}
+use Rattle.runnable.proofs.runs.Tie as tie
 
 mul-a : tie.Need-mul-a
 mul-a c = search needs

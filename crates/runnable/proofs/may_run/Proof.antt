@@ -1,4 +1,4 @@
--- `readiness::may_run` meets its contract: before turn i the array says of the first i processes whether they may run.
+-- `runnable::may_run` meets its contract: before turn i the array says of the first i processes whether they may run.
 -- Assumes nothing.
 use mathlib.Core.Path.{_≡_, refl, ap, _∙_}
 use mathlib.Core.Bool.{Bool}
@@ -7,10 +7,10 @@ use Prim.Native.Nat.{ℕ, _+_, _-_, _≤_}
 use native.Mathlib.Numerals.{add-one}
 use native.Mathlib.Omega.{arith}
 use lib.ListN.{set}
 use Rattle.readiness.specs.Reading.{bit, runs-by, may-run-by}
 use borrow.Author.Needs.{needs}
-use Rattle.readiness.proofs.may_run.Statement.{statement}
-use Rattle.readiness.proofs.may_run.Tie as tie
+use Rattle.runnable.proofs.may_run.Statement.{statement}
+use Rattle.runnable.proofs.may_run.Tie as tie
 
 next : (from cue unmet comes : List ℕ) (u : ℕ) (several first into : List ℕ) (i : ℕ) {v : ℕ} {b : Bool} {run : List ℕ} →
     run ≡ may-run-by from cue unmet comes u several first into i → v ≡ bit b → b ≡ runs-by from cue unmet comes u several first into run i →
