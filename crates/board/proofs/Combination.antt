@@ -15,7 +15,8 @@ use Rattle.model.specs.Plan.{Lines, When, always, on}
 use Rattle.model.specs.Listing.{bit}
 use Rattle.plan.proofs.Links.{kind-of, condition-of}
 use Rattle.readiness.specs.Holding.{cue-row, met-in}
-use Rattle.board.specs.Layout.{differs, receiver-of, cue-of, unmet-of, value-of}
+use Rattle.unmet_whens.specs.Unmet.{differs, unmet-of, value-of}
+use Rattle.line_arrays.specs.Lined.{receiver-of, cue-of}
 
 -- two numbers differ, or not
 pub differs-same : (a b : ℕ) → eqb (differs a b) 0 ≡ eqb a b

@@ -36,10 +36,13 @@ use Rattle.orders.specs.Orders.{Ordered}
 use Rattle.timetable.specs.declared.Timetable.{Timetable}
 use Rattle.timetable.specs.Bus.{Timed}
 use Rattle.mask.proofs.Numbered.{combination-bit}
-use Rattle.board.specs.Layout.{receiver-of, cue-of, several-of, unmet-of, value-of, unmet-by, process-of-row, senders-by-row, spans-by-row, sizes-by-row, several-by-process, cues-by-edge, remote-by-edge, board-of}
+use Rattle.unmet_whens.specs.Unmet.{unmet-of, value-of, unmet-by}
+use Rattle.line_arrays.specs.Lined.{receiver-of, cue-of, several-of, several-by-process, cues-by-edge, remote-by-edge}
+use Rattle.row_arrays.specs.Rowed.{process-of-row, senders-by-row, spans-by-row, sizes-by-row}
+use Rattle.board.specs.Layout.{board-of}
 use Rattle.board.specs.Board.{Boarded}
 use Rattle.orders.proofs.Everywhere.{fill-each, fill-all}
-use Rattle.board.proofs.Bounds.{senders-small}
+use Rattle.row_arrays.proofs.Bounds.{senders-small}
 use Rattle.board.proofs.Parts.{null-same, part-same}
 use Rattle.board.proofs.Lengths.{Long}
 use Rattle.board.proofs.Columns.{any-of, facts, few, process-any, no-process-at, no-edge-at, node-small, ticks-small, from-small, bytes-small, names-small, decider-same, decider-small}

@@ -15,7 +15,7 @@ use Rattle.model.specs.Planning.{turns, queue}
 use Rattle.readiness.specs.Reading.{part, Within}
 use Rattle.readiness.specs.Holding.{Holds}
 use Rattle.board.specs.declared.Board.{Board}
-use Rattle.board.specs.Layout.{unmet-by}
+use Rattle.unmet_whens.specs.Unmet.{unmet-by}
 
 pub record Boarded (p : Lines) (b : Board) : Type 0 where
   -- how many there are of each, and where the rows of the conditions begin

@@ -6,7 +6,7 @@ use first_sentence::active_of;
 use first_sentence::first_found;
 use met::met_rows;
 use met::miscounts;
-use readiness::last_end;
+use row_ends::last_end;
 ghost use mathlib.Core.Path.{_≡_};
 ghost use Prim.Native.Nat.{_^_, _<_, max, min};
 ghost use Rattle.combination.specs.Combination.{found-by, found-all, Tabled};

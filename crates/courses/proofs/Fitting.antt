@@ -28,7 +28,7 @@ use Rattle.readiness.specs.Holding.{cue-row, met-in, Holds}
 use Rattle.timetable.specs.Bus.{beginning-at}
 use Rattle.starting.proofs.Turns.{turn-member, turn-unit}
 use Rattle.board.specs.declared.Board.{Board}
-use Rattle.board.specs.Layout.{unmet-by}
+use Rattle.unmet_whens.specs.Unmet.{unmet-by}
 use Rattle.board.specs.Board.{Boarded}
 use Rattle.event.specs.Course.{begins-by, from-clock, Fits}
 use Rattle.event.specs.Kept.{Begins}

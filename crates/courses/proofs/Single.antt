@@ -22,7 +22,7 @@ use Rattle.readiness.specs.Reading.{last-end-by}
 use Rattle.readiness.specs.Holding.{Holds, Held}
 use Rattle.readiness.proofs.Readings.{last-end-link}
 use Rattle.board.specs.declared.Board.{Board}
-use Rattle.board.specs.Layout.{unmet-by}
+use Rattle.unmet_whens.specs.Unmet.{unmet-by}
 use Rattle.board.specs.Board.{Boarded}
 use Rattle.event.specs.Course.{Moment, Ended, from-clock}
 use Rattle.course.proofs.Planned.{first-at, Plans, leads-planned}

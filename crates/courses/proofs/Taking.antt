@@ -26,7 +26,7 @@ use Rattle.laws.proofs.Sharing.{in-plan, plan-in, Shared, made-same}
 use Rattle.readiness.specs.Reading.{last-end-by}
 use Rattle.readiness.specs.Holding.{Row, absent, stands, Held}
 use Rattle.board.specs.declared.Board.{Board}
-use Rattle.board.specs.Layout.{unmet-by}
+use Rattle.unmet_whens.specs.Unmet.{unmet-by}
 use Rattle.board.specs.Board.{Boarded}
 use Rattle.event.specs.Course.{Ended, from-clock}
 use Rattle.course.proofs.Standing.{At}

@@ -1,10 +1,10 @@
 // The plans of all combinations, one after another, in arrays: combination c's row r stands at place c * 198 + r. A combination takes over what is placed
 // before one of its values arrives from an earlier combination that differs from it in that value alone. specs/Courses.antt says what the arrays hold.
 use board::Board;
-use board::unmet;
 use course::course;
-use readiness::last_end;
 use resume::resume;
+use row_ends::last_end;
+use unmet_whens::unmet;
 ghost use mathlib.Core.Path.{_≡_};
 ghost use Prim.Native.Nat.{ℕ, max, _+_, _*_, _^_, _<_, _≤_};
 ghost use lib.ListN.{getD, length, replicate};

@@ -8,7 +8,7 @@ use lib.ListN.{replicate}
 use Rattle.model.specs.Plan.{Lines}
 use Rattle.readiness.specs.Reading.{may-run-by}
 use Rattle.board.specs.declared.Board.{Board}
-use Rattle.board.specs.Layout.{unmet-by}
+use Rattle.unmet_whens.specs.Unmet.{unmet-by}
 use Rattle.board.specs.Board.{Boarded}
 use Rattle.due.specs.Due.{due-by, active-by, due-of}
 

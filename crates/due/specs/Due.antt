@@ -10,7 +10,7 @@ use lib.ListN.{getD, replicate}
 use Rattle.lists.specs.Lists.{if_then_else_, any, below, fill}
 use Rattle.readiness.specs.Reading.{may-run-by}
 use Rattle.board.specs.declared.Board.{Board}
-use Rattle.board.specs.Layout.{unmet-by}
+use Rattle.unmet_whens.specs.Unmet.{unmet-by}
 
 -- 1 where edge e is between nodes, its `when` is met and its sender is active
 abbrev pub due-edge : List ℕ → List ℕ → List ℕ → List ℕ → ℕ → ℕ

@@ -1,7 +1,7 @@
 // The rows that are due in one combination.
 use board::Board;
-use board::unmet;
-use readiness::may_run;
+use runnable::may_run;
+use unmet_whens::unmet;
 ghost use mathlib.Core.Path.{_≡_};
 ghost use Prim.Native.Nat.{ℕ, _+_, _<_, _≤_};
 ghost use lib.ListN.{getD, replicate};

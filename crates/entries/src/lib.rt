@@ -1,6 +1,6 @@
 // The entries of a table, from the logs of all combinations: row by row as numbers in order, each once, and then as words.
 use ascending::put;
-use readiness::known;
+use row_ends::known;
 ghost use mathlib.Core.Path.{_≡_};
 ghost use Prim.Native.Nat.{ℕ, max, _+_, _*_, _^_, _<_, _≤_};
 ghost use lib.ListN.{getD, length};

@@ -7,7 +7,7 @@ use Rattle.lists.specs.Lists.{if_then_else_}
 use Rattle.model.specs.Plan.{Lines}
 use Rattle.board.specs.declared.Board.{Board}
 use Rattle.board.specs.Board.{Boarded}
-use Rattle.board.specs.Layout.{unmet-by}
+use Rattle.unmet_whens.specs.Unmet.{unmet-by}
 use Rattle.met.specs.declared.MetRows.{MetRows}
 use Rattle.meeting.specs.Meeting.{Readable}
 use Rattle.sentences.specs.Sentences.{guesses-by, off-slot-by, overlap-by, Slotted}

@@ -1,12 +1,12 @@
 // The first of refusals 15 to 19 that applies in one combination.
 use board::Board;
-use board::unmet;
 use early::too_early;
 use guessing::guesses;
 use met::MetRows;
 use overlapping::overlap;
 use sharing::share_byte;
 use slotting::off_slot;
+use unmet_whens::unmet;
 ghost use mathlib.Core.Path.{_≡_};
 ghost use Prim.Native.Nat.{_≤_};
 ghost use lib.ListN.{getD, replicate};

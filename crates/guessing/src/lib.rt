@@ -1,6 +1,6 @@
 // Refusal 15 of one combination, read off arrays by row. `comes` has 0 where no entry of the row is met, else the met entry's tick
 // plus what the row lasts, plus 1; `span` has what the row lasts, so that the row starts at the clock comes - span, which is its tick plus 1.
-use readiness::known;
+use row_ends::known;
 ghost use mathlib.Core.Path.{_≡_};
 ghost use Prim.Native.Nat.{_<_, _≤_};
 ghost use Rattle.meeting.specs.Meeting.{Readable};

@@ -23,7 +23,7 @@ use Rattle.readiness.specs.Reading.{bit, came-by, within, runs-by, may-run-by}
 use Rattle.readiness.specs.Holding.{met-in, Runs}
 use Rattle.readiness.proofs.Running.{may-run-link}
 use Rattle.board.specs.declared.Board.{Board}
-use Rattle.board.specs.Layout.{unmet-by}
+use Rattle.unmet_whens.specs.Unmet.{unmet-by}
 use Rattle.board.specs.Board.{Boarded}
 use Rattle.due.specs.Due.{due-edge, due-row, due-by, active-by, due-of}
 use Rattle.met.proofs.Column.{numbered-length}

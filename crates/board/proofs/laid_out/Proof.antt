@@ -6,8 +6,10 @@ use Prim.Native.Nat.{ℕ, _+_, _≤_, _<_}
 use native.Mathlib.Omega.{arith}
 use borrow.Author.Needs.{needs}
 use Rattle.plan.specs.Refusing.{at}
-use Rattle.board.specs.Layout.{cues-by-edge, spans-by-row, board-of}
-use Rattle.board.proofs.Bounds.{senders-small}
+use Rattle.line_arrays.specs.Lined.{cues-by-edge}
+use Rattle.row_arrays.specs.Rowed.{spans-by-row}
+use Rattle.board.specs.Layout.{board-of}
+use Rattle.row_arrays.proofs.Bounds.{senders-small}
 use Rattle.board.proofs.laid_out.Statement.{statement}
 use Rattle.board.proofs.laid_out.Tie as tie
 

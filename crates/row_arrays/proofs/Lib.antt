@@ -1,0 +1,2 @@
+-- Bounds (how large the numbers of the arrays are).
+pub mod Bounds
