@@ -28,7 +28,7 @@ use Rattle.plan.proofs.Counted.{column}
 use Rattle.plan.proofs.Links.{Few, condition-of, processes-length, edges-length, conditions-length, decider-at, process-node, process-ticks, edge-from, edge-to, edge-bytes, edge-condition}
 use Rattle.orders.proofs.Model.{counts}
 use Rattle.board.specs.Layout.{Small}
-use Rattle.orders.proofs.Everywhere.{fill-all}
+use Rattle.by_key.proofs.Everywhere.{fill-all}
 
 -- 1 where a process line says `any`
 unfoldable pub any-of : Waits → ℕ

@@ -41,7 +41,7 @@ use Rattle.line_arrays.specs.Lined.{receiver-of, cue-of, several-of, several-by
 use Rattle.row_arrays.specs.Rowed.{process-of-row, senders-by-row, spans-by-row, sizes-by-row}
 use Rattle.board.specs.Layout.{board-of}
 use Rattle.board.specs.Board.{Boarded}
-use Rattle.orders.proofs.Everywhere.{fill-each, fill-all}
+use Rattle.by_key.proofs.Everywhere.{fill-each, fill-all}
 use Rattle.row_arrays.proofs.Bounds.{senders-small}
 use Rattle.board.proofs.Parts.{null-same, part-same}
 use Rattle.board.proofs.Lengths.{Long}

@@ -14,7 +14,7 @@ use Rattle.lists.specs.Lists.{null, upfrom}
 use Rattle.lists.proofs.Tests.{two}
 use Rattle.plan.specs.Refusing.{at}
 use Rattle.readiness.specs.Reading.{part}
-use Rattle.orders.specs.Groups.{Part}
+use Rattle.by_key.specs.Groups.{Part}
 
 slice-run : (xs : List ℕ) (n a b : ℕ) → a + n ≡ b → b ≤ length xs → slice a b xs ≡ map (at xs) (upfrom a n)
 slice-run xs zero a b q h = let e : a ≡ b = omega arith in ap (λ (k : ℕ). slice k b xs) e ∙ slice-empty b xs

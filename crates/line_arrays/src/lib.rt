@@ -1,6 +1,6 @@
 // Arrays of a plan's lines: by process, whether it counts as `any`; by edge, the row that makes its `when` known and the node that receives.
-use orders::no_numbers;
-use orders::wide;
+use by_weight::no_numbers;
+use by_weight::wide;
 use plan::tables::EdgeTable;
 ghost use mathlib.Core.Path.{_≡_};
 ghost use Prim.Native.Nat.{ℕ, _<_, _≤_};

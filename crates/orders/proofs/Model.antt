@@ -29,8 +29,10 @@ use Rattle.plan.specs.Memory.{pick-of, lines}
 use Rattle.plan.specs.Refusing.{at}
 use Rattle.plan.specs.Tables.{processes-table, edges-table}
 use Rattle.plan.proofs.Links.{Few, few, counts-same, processes-length, edges-length, process-node, process-ticks, edge-from, edge-to}
-use Rattle.orders.specs.Urgency.{Upward, after, urgencies-of, weights-of}
-use Rattle.orders.specs.Groups.{with-key, sender-key}
+use Rattle.urgency_array.specs.Urgency.{Upward, after, urgencies-of}
+use Rattle.orders.specs.Weights.{weights-of}
+use Rattle.by_key.specs.Groups.{with-key}
+use Rattle.orders.specs.Weights.{sender-key}
 
 urgencies-lines : (p : Lines) (i n : ℕ) →
     urgencies-of (λ i. process p i .ticks) (λ e. edge p e .from) (λ e. edge p e .to) (length (p .edges)) i n ≡ urgencies-from p i n

@@ -1,3 +1,2 @@
-pub mod Urgency
-pub mod Groups
+pub mod Weights
 pub mod Orders

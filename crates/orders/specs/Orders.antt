@@ -10,7 +10,7 @@ use Rattle.plan.specs.declared.Plan.{Plan}
 use Rattle.plan.specs.Memory.{lines}
 use Rattle.plan.specs.Refusing.{at}
 use Rattle.orders.specs.declared.Orders.{Orders}
-use Rattle.orders.specs.Groups.{Part}
+use Rattle.by_key.specs.Groups.{Part}
 
 pub record Ordered (p : Plan) (o : Orders) : Type 0 where
   pub into : (i : ℕ) → i < p .processes → Part (o .intofirst) (o .into) i (into (lines p) i)

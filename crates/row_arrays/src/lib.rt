@@ -1,5 +1,5 @@
 // Arrays by row: the node that a row belongs to, the ticks that it lasts, and its bytes on the bus.
-use orders::wide;
+use by_weight::wide;
 ghost use mathlib.Core.Path.{_≡_};
 ghost use Prim.Native.Nat.{ℕ, _+_, _-_, _<_, _≤_};
 ghost use lib.ListN.{replicate};

@@ -1,6 +1,6 @@
 // Which `when`s of a plan's edges a combination leaves unmet.
-use orders::no_numbers;
-use orders::wide;
+use by_weight::no_numbers;
+use by_weight::wide;
 ghost use mathlib.Core.Path.{_≡_};
 ghost use Prim.Native.Nat.{ℕ, _<_, _≤_};
 ghost use Rattle.lists.specs.Lists.{fill};

@@ -15,7 +15,7 @@ use Rattle.plan.specs.declared.Plan.{Plan}
 use Rattle.plan.specs.Memory.{lines}
 use Rattle.plan.specs.Refusing.{at}
 use Rattle.plan.proofs.Links.{Few}
-use Rattle.orders.specs.Groups.{with-key, Part}
+use Rattle.by_key.specs.Groups.{with-key, Part}
 use Rattle.orders.proofs.Model.{counts, upward, few-ticks, same-weights, same-turns, same-queue, same-into, same-unit, same-messages}
 use Rattle.orders.proofs.fixed_orders.Statement.{statement}
 use Rattle.orders.proofs.fixed_orders.Tie as tie

@@ -7,7 +7,7 @@ use borrow.Author.Needs.{needs}
 use Rattle.lists.specs.Lists.{fill}
 use Rattle.lists.proofs.Fill.{fill-next}
 use Rattle.plan.specs.Refusing.{at}
-use Rattle.orders.specs.Groups.{sender-key}
+use Rattle.orders.specs.Weights.{sender-key}
 use Rattle.orders.proofs.sender_keys.Statement.{statement}
 use Rattle.orders.proofs.sender_keys.Tie as tie
 

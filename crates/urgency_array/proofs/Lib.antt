@@ -1,0 +1,2 @@
+-- Downward (urgencies from the last process down).
+pub mod Downward
