@@ -14,7 +14,8 @@ use borrow.Author.Tests.{eqb-true, eqb-false, leb-true, ne-eqb}
 use Rattle.lists.proofs.Tests.{two, both}
 use Rattle.readiness.specs.Reading.{part}
 use Rattle.starting.specs.Starting.{Ends, first-of, end-after, rows-after, can-start, choice, start-by, starts-by}
-use Rattle.starting.proofs.Picks.{part-in, First, no-first, a-first, the-first, first-none}
+use Rattle.readiness.proofs.Parts.{part-in}
+use Rattle.starting.proofs.Picks.{First, no-first, a-first, the-first, first-none}
 use Rattle.starting.proofs.Ends.{set-there}
 use Rattle.slot_items.proofs.Rows.{set-either}
 use Rattle.board.specs.declared.Board.{Board}

@@ -10,24 +10,19 @@ use native.Mathlib.Omega.{arith}
 use lib.ListN.{getD}
 use Rattle.lists.specs.Lists.{if_then_else_, upfrom}
 use Rattle.lists.proofs.Tests.{two}
-use Rattle.lists.proofs.Members.{in-upfrom, upfrom-in, in-map, map-in}
-use Rattle.lists.proofs.Loops.{upfrom-next, upfrom-end}
+use Rattle.lists.proofs.Loops.{upfrom-end}
 use Rattle.readiness.specs.Reading.{part}
+use Rattle.readiness.proofs.Parts.{part-next}
 use Rattle.starting.specs.Starting.{first-of}
 
-module _ (xs : List ℕ) (j b : ℕ) (l : j < b) where
-  pub part-next : part xs j b ≡ getD xs j 0 ∷ part xs (j + 1) b
-  unfolding part
-  part-next = ap (map (λ j. getD xs j 0)) (upfrom-next b j l)
+module _ (xs : List ℕ) (j b : ℕ) (l : j < b) (f : ℕ → Bool) where
+  pub first-pass : f (getD xs j 0) ≡ true → first-of f (part xs j b) ≡ getD xs j 0
+  unfolding first-of
+  first-pass e = ap (first-of f) (part-next xs j b l) ∙ rw e
 
-  module _ (f : ℕ → Bool) where
-    pub first-pass : f (getD xs j 0) ≡ true → first-of f (part xs j b) ≡ getD xs j 0
-    unfolding first-of
-    first-pass e = ap (first-of f) part-next ∙ rw e
-
-    pub first-fail : f (getD xs j 0) ≡ false → first-of f (part xs j b) ≡ first-of f (part xs (j + 1) b)
-    unfolding first-of
-    first-fail e = ap (first-of f) part-next ∙ rw e
+  pub first-fail : f (getD xs j 0) ≡ false → first-of f (part xs j b) ≡ first-of f (part xs (j + 1) b)
+  unfolding first-of
+  first-fail e = ap (first-of f) (part-next xs j b l) ∙ rw e
 
 pub first-end : (xs : List ℕ) (j b : ℕ) (f : ℕ → Bool) → b ≤ j → first-of f (part xs j b) ≡ 64
 unfolding first-of part
@@ -44,19 +39,6 @@ first-low xs a b f h = go a (b - a)
     go : (a n : ℕ) → first-of f (map (λ j. getD xs j 0) (upfrom a n)) ≤ 64
     go a zero = omega arith
     go a (suc n) = one (f (getD xs a 0)) (getD xs a 0) _ (h a) (go (suc a) n)
-
--- the numbers from place a to before place b are the members of the part
-module _ (xs : List ℕ) (a b : ℕ) where
-  pub in-part : (j : ℕ) → a ≤ j → j < b → In (getD xs j 0) (part xs a b)
-  unfolding part
-  in-part j l u = in-map (λ j. getD xs j 0) (in-upfrom a (b - a) j l (omega arith))
-
-  pub part-in : {x : ℕ} → In x (part xs a b) → (j : ℕ) × (a ≤ j) × (j < b) × (x ≡ getD xs j 0)
-  unfolding part
-  part-in m =
-      let r = map-in (λ j. getD xs j 0) (upfrom a (b - a)) m in
-      let u = upfrom-in a (b - a) (r .1) in
-      (r .0, u .0, omega (arith, u .0, u .1), r .2)
 
 -- no number passes, or the first that passes stands there
 pub first-none : (f : ℕ → Bool) (xs : List ℕ) → ((x : ℕ) → In x xs → f x ≡ false) → first-of f xs ≡ 64

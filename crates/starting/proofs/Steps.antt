@@ -14,7 +14,8 @@ use Rattle.lists.proofs.Tests.{two, both}
 use Rattle.readiness.specs.Reading.{part}
 use Rattle.starting.specs.Starting.{Ends, end-after, rows-after, can-start, choice, start-by}
 use Rattle.starting.specs.Quiet.{Idle}
-use Rattle.starting.proofs.Picks.{in-part, part-in, first-none, First, no-first, a-first, the-first}
+use Rattle.readiness.proofs.Parts.{in-part, part-in}
+use Rattle.starting.proofs.Picks.{first-none, First, no-first, a-first, the-first}
 
 module _ (processes : ℕ) (remote from cue unmet run several intofirst into : List ℕ) (u : ℕ) (turnfirst turn ticks : List ℕ) where
   abbrev can : List ℕ → ℕ → Bool

@@ -11,7 +11,7 @@ use Rattle.lists.proofs.Members.{keep-in}
 use Rattle.model.specs.Plan.{Lines, unit}
 use Rattle.model.specs.Planning.{turns}
 use Rattle.starting.specs.Busy.{Turns}
-use Rattle.starting.proofs.Picks.{in-part}
+use Rattle.readiness.proofs.Parts.{in-part}
 use Rattle.starting.proofs.Rows.{turn-in}
 
 module _ (p : Lines) (turnfirst turn : List ℕ) (o : Turns p turnfirst turn) where
