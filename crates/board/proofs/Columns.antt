@@ -12,7 +12,7 @@ use borrow.Author.Tests.{ltb-true, ltb-false}
 use Rattle.lists.specs.Lists.{any, fill}
 use Rattle.lists.proofs.Tests.{two, neither}
 use Rattle.lists.proofs.Members.{none-at}
-use Rattle.lists.proofs.Fill.{fill-at}
+use Rattle.lists.proofs.Fill.{fill-at, fill-all}
 use Rattle.model.specs.Plan.{Process, Edge, Waits, waits-all, waits-any, When, always, on, process, edge, decider}
 use Rattle.model.specs.Refusals.{outside, nothing, wrong-counts, wrong-slot, wrong-edge, wrong-ticks, wrong-sizes, plan-refusal}
 use Rattle.laws.proofs.Good.{Good, pass, good}
@@ -28,7 +28,6 @@ use Rattle.plan.proofs.Counted.{column}
 use Rattle.plan.proofs.Links.{Few, condition-of, processes-length, edges-length, conditions-length, decider-at, process-node, process-ticks, edge-from, edge-to, edge-bytes, edge-condition}
 use Rattle.orders.proofs.Model.{counts}
 use Rattle.board.specs.Layout.{Small}
-use Rattle.by_key.proofs.Everywhere.{fill-all}
 
 -- 1 where a process line says `any`
 unfoldable pub any-of : Waits → ℕ

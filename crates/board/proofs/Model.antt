@@ -14,7 +14,7 @@ use Rattle.lists.specs.Lists.{if_then_else_, any, null, fill}
 use Rattle.lists.proofs.Tests.{two, neither}
 use Rattle.lists.proofs.Members.{none-in, map-in}
 use Rattle.lists.proofs.Different.{all-there}
-use Rattle.lists.proofs.Fill.{fill-at}
+use Rattle.lists.proofs.Fill.{fill-at, fill-each, fill-all}
 use Rattle.model.specs.Plan.{Slot, Waits, waits-all, waits-any, process, edge, decider, into, local, unit}
 use Rattle.model.specs.Activity.{combinations, says-any, conjunction}
 use Rattle.model.specs.Bus.{slot-ticks, slot-of, rows, sender, row-node, row-bytes, transit}
@@ -41,7 +41,6 @@ use Rattle.line_arrays.specs.Lined.{receiver-of, cue-of, several-of, several-by
 use Rattle.row_arrays.specs.Rowed.{process-of-row, senders-by-row, spans-by-row, sizes-by-row}
 use Rattle.board.specs.Layout.{board-of}
 use Rattle.board.specs.Board.{Boarded}
-use Rattle.by_key.proofs.Everywhere.{fill-each, fill-all}
 use Rattle.row_arrays.proofs.Bounds.{senders-small}
 use Rattle.board.proofs.Parts.{null-same, part-same}
 use Rattle.board.proofs.Lengths.{Long}

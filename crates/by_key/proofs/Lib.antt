@@ -1,3 +1,2 @@
--- Everywhere (what holds at every place of an array), Gathering (groups in an array).
-pub mod Everywhere
+-- Gathering (groups in an array).
 pub mod Gathering

@@ -2,10 +2,10 @@
 // applies, out. It tries 2 to 9 on the plan, 12 and 13 on the words, then 14 to 19 in every combination, and 20 on the stated delay.
 use board::of_plan;
 use combination::try_all;
-use formed::how_many;
 use formed::ill_formed;
 use judging::Checked;
 use judging::judged;
+use mask::combinations_of;
 use plan::Plan;
 use refusals::Refusal;
 use refusals::refuse;
@@ -52,7 +52,7 @@ pub fn check_words(p: Plan, table: &[u32], delay: u64) -> Checked
         return Checked::Refused(12);
     }
     let b = of_plan(p);
-    let combinations = how_many(b.conditions);
+    let combinations = combinations_of(b.conditions);
     let remote = b.remote;
     if some_ill_formed(table, b.processes, b.tell, b.rows, combinations, &remote) {
         return Checked::Refused(13);

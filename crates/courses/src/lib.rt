@@ -1,7 +1,9 @@
 // The plans of all combinations, one after another, in arrays: combination c's row r stands at place c * 198 + r. A combination takes over what is placed
 // before one of its values arrives from an earlier combination that differs from it in that value alone. specs/Courses.antt says what the arrays hold.
 use board::Board;
+use by_weight::wide;
 use course::course;
+use mask::combinations_of;
 use resume::resume;
 use row_ends::last_end;
 use unmet_whens::unmet;
@@ -20,18 +22,12 @@ pub struct Totals {
     pub passed: [u32; 8],
 }
 
-// How many combinations some conditions have.
+// How many combinations some conditions have, as an index.
 pub fn how_many(conditions: usize) -> usize
     requires { ⌜ conditions ≤ 6 ⌝ }
     ensures { λ r. ⌜ (r ≡ 2 ^ conditions) × (r ≤ 64) ⌝ }
 {
-    let mut n: usize = 1;
-    let mut k: usize = 0;
-    while k < conditions {
-        n = n * 2;
-        k += 1;
-    }
-    n
+    wide(combinations_of(conditions))
 }
 
 fn greater(a: u32, b: u32) -> u32

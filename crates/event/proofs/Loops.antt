@@ -1,35 +1,21 @@
--- What the loops of the code rest on: numbers stored one by one, the slot of a node that is nearer, what a slot leaves of the bus, and what one event leaves of all.
+-- What the loops of the code rest on: the slot of a node that is nearer, what a slot leaves of the bus, and what one event leaves of all.
 -- Assumes nothing.
 use Prim.Native.Nat.{ℕ, zero, suc, _+_, _-_, _%_, _≤_, _<_}
-use mathlib.Core.Path.{_≡_, refl, sym, ap, _∙_}
+use mathlib.Core.Path.{_≡_, refl, _∙_}
 use mathlib.Core.Bool.{Bool, true, false}
 use mathlib.Core.List.{List, [], _∷_}
 use native.Mathlib.Nat.{mod-le, mod-lt}
 use native.Mathlib.Omega.{arith}
 use lib.Dec.{eqb, leb}
-use lib.ListN.{length, getD, set, drop, drop-of-length-le, length-set}
-use lib.Seq.{sets}
+use lib.ListN.{length, getD, set, length-set}
 use borrow.Author.Tests.{le-leb, lt-leb, leb-true}
 use Rattle.lists.specs.Lists.{if_then_else_}
-use Rattle.lists.proofs.Parts.{drop-one}
 use Rattle.timetable.specs.Bus.{beginning-at}
 use Rattle.slot_items.specs.Packing.{Load}
 use Rattle.board.specs.declared.Board.{Board}
 use Rattle.serving.specs.Serving.{Bus, bus, filled, fill-by}
 use Rattle.event.specs.Course.{last-event, Moment, slot-at-by, serve-by, come-by, next-slot, nearer-by, event-by, hears, begins-with, serves, waiting, notes, moves, next, Fits}
 use Rattle.event.proofs.Ahead.{come-after, event-after}
-
--- numbers stored one by one: before turn r what is left to store gives the whole, and after the last turn nothing is left
-pub stores-next : (xs : List ℕ) (at r : ℕ) (all : List ℕ) {whole : List ℕ} → r < length xs → sets all (at + r) (drop r xs) ≡ whole →
-    sets (set all (at + r) (getD xs r 0)) (at + (r + 1)) (drop (r + 1) xs) ≡ whole
-stores-next xs at r all l e =
-    let q : at + (r + 1) ≡ suc (at + r) = omega arith in
-    ap (λ (k : ℕ). sets (set all (at + r) (getD xs r 0)) k (drop (r + 1) xs)) q
-    ∙ ap (sets all (at + r)) (sym (drop-one xs r l))
-    ∙ e
-
-pub stores-end : (xs : List ℕ) (at r : ℕ) (all : List ℕ) {whole : List ℕ} → length xs ≤ r → sets all (at + r) (drop r xs) ≡ whole → all ≡ whole
-stores-end xs at r all l e = ap (sets all (at + r)) (sym (drop-of-length-le xs {i = r} l)) ∙ e
 
 -- the next beginning of a slot, by cases
 module _ (pending : ℕ → Bool) (round : ℕ) (offset : List ℕ) (u n least : ℕ) where

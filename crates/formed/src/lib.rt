@@ -1,6 +1,6 @@
 // Refusal 13 of one entry of a start table.
 ghost use mathlib.Core.Path.{_≡_};
-ghost use Prim.Native.Nat.{_+_, _^_, _≤_};
+ghost use Prim.Native.Nat.{_+_, _≤_};
 ghost use lib.ListN.{length};
 ghost use Rattle.met.specs.Table.{entry-from};
 ghost use Rattle.formed.specs.Formed.{local-row, ill-formed-by};
@@ -9,20 +9,6 @@ fn wide(x: u32) -> usize
     ensures { λ r. ⌜ r ≡ x ⌝ }
 {
     x as usize
-}
-
-// How many combinations some conditions have. It is pub for the crates checker and many_entries.
-pub fn how_many(conditions: usize) -> u32
-    requires { ⌜ conditions ≤ 6 ⌝ }
-    ensures { λ r. ⌜ (r ≡ 2 ^ conditions) × (r ≤ 64) ⌝ }
-{
-    let mut n: u32 = 1;
-    let mut k: usize = 0;
-    while k < conditions {
-        n = n * 2;
-        k += 1;
-    }
-    n
 }
 
 // Whether a row is that of an edge within one node.

@@ -1,21 +1,22 @@
 -- What passes refusals 2 to 9 has numbers of at most six digits and few lines, so its text is short.
 -- Assumes nothing.
 use mathlib.Core.Path.{_≡_, refl}
-use mathlib.Core.Bool.{Bool, true, false, not}
+use mathlib.Core.Bool.{true, false, not}
 use mathlib.Core.List.{List, [], _∷_, _++_, List·Memᴰ as In}
 use Prim.Native.Nat.{ℕ, _+_, _≤_, _<_}
 use Prim.Native.String.{String}
 use native.Mathlib.Omega.{arith}
 use borrow.Author.Tests.{leb-true, leb-false, ltb-false, lt-ltb}
-use lib.Dec.{eqb, leb, ltb}
+use lib.Dec.{eqb, leb}
 use lib.ListN.{length, length-append}
 use Rattle.lists.specs.Lists.{all, any, each}
 use Rattle.lists.proofs.Tests.{neither, join}
 use Rattle.lists.proofs.Members.{none-in, all-each}
 use Rattle.lists.proofs.Sums.{length-each}
 use Rattle.model.specs.Plan.{Lines, Pick, by-urgency, by-number, Waits, waits-all, waits-any, Slot, Process, Edge, When, always, on, decider}
-use Rattle.model.specs.Refusals.{Refusal, nothing, sentence, outside, wrong-counts, wrong-slot, wrong-edge, wrong-ticks, wrong-sizes, no-node, wrong-nodes, no-process, wrong-deciders, wrong-ends, twin-edges, undecided, wrong-when, plan-refusal}
+use Rattle.model.specs.Refusals.{nothing, wrong-counts, wrong-slot, wrong-edge, wrong-ticks, wrong-sizes, no-node, wrong-nodes, no-process, wrong-deciders, wrong-ends, twin-edges, undecided, wrong-when, plan-refusal}
 use Rattle.model.specs.Text.{text, decimal, field, pick-text, waits-text, when-text, slot-line, process-line, condition-line, edge-line, plan-line, print, short, when-numbers, slot-numbers, process-numbers, condition-numbers, edge-numbers, numbers}
+use Rattle.laws.proofs.Good.{pass, inside}
 use Rattle.grammar.proofs.Numbers.{decimal-length}
 use Rattle.grammar.proofs.Whole.{numbers-short}
 
@@ -36,15 +37,6 @@ record Bounds (p : Lines) : Type 0 where
   condition : (i : ℕ) → In i (p .conditions) → Small (condition-numbers i)
   edge : (e : Edge) → In e (p .edges) → Small (edge-numbers e)
 
--- a sentence that refuses nothing does not apply
-passed : (n : ℕ) (b : Bool) (r : Refusal) → sentence n b r ≡ nothing → (b ≡ false) × (r ≡ nothing)
-passed n true r e = absurd (let z : _≡_ {A = ℕ} 0 1 = cc in omega arith)
-passed n false r e = (refl, e)
-
-pub inside : (lo hi x : ℕ) → outside lo hi x ≡ false → x ≤ hi
-unfolding outside
-inside lo hi x h = ltb-false hi x (neither (ltb x lo) (ltb hi x) h .1)
-
 small : (m n : ℕ) → leb m 100000 ≡ true → n ≤ m → n < 1000000
 small m n h l = omega (arith, leb-true m 100000 h)
 
@@ -60,13 +52,13 @@ small-when p i (on v k) l h =
 bounds : (p : Lines) → plan-refusal p ≡ nothing → Bounds p
 unfolding plan-refusal wrong-counts wrong-slot wrong-edge wrong-ticks wrong-sizes no-node wrong-nodes no-process wrong-deciders wrong-ends wrong-when
 bounds p h =
-    let s2 = passed 2 (wrong-counts p) _ h in
-    let s3 = passed 3 (wrong-sizes p) _ (s2 .1) in
-    let s4 = passed 4 (wrong-nodes p) _ (s3 .1) in
-    let s5 = passed 5 (wrong-deciders p) _ (s4 .1) in
-    let s6 = passed 6 (any (wrong-ends p) (p .edges)) _ (s5 .1) in
-    let s7 = passed 7 (twin-edges (p .edges)) _ (s6 .1) in
-    let s8 = passed 8 (any (wrong-when p) (p .edges)) _ (s7 .1) in
+    let s2 = pass 2 (wrong-counts p) _ h in
+    let s3 = pass 3 (wrong-sizes p) _ (s2 .1) in
+    let s4 = pass 4 (wrong-nodes p) _ (s3 .1) in
+    let s5 = pass 5 (wrong-deciders p) _ (s4 .1) in
+    let s6 = pass 6 (any (wrong-ends p) (p .edges)) _ (s5 .1) in
+    let s7 = pass 7 (twin-edges (p .edges)) _ (s6 .1) in
+    let s8 = pass 8 (any (wrong-when p) (p .edges)) _ (s7 .1) in
     let a2 = neither _ _ (s2 .0) in
     let b2 = neither _ _ (a2 .0) in
     let c2 = neither _ _ (b2 .0) in
@@ -74,8 +66,8 @@ bounds p h =
     let b3 = neither _ _ (a3 .0) in
     let c3 = neither _ _ (b3 .0) in
     let b4 = neither _ _ (neither _ _ (s4 .0) .0) in
-    let slots : length (p .slots) ≤ 8 = inside 1 8 (length (p .slots)) (c2 .0) in
-    let processes : length (p .processes) ≤ 64 = inside 1 64 (length (p .processes)) (c2 .1) in
+    let slots : length (p .slots) ≤ 8 = inside 1 8 (length (p .slots)) (c2 .0) .1 in
+    let processes : length (p .processes) ≤ 64 = inside 1 64 (length (p .processes)) (c2 .1) .1 in
     let conditions : length (p .conditions) ≤ 6 = ltb-false 6 (length (p .conditions)) (b2 .1) in
     let a-node : (n : ℕ) → no-node p n ≡ false → n < 1000000 = λ n e. below-count (length (p .slots)) 8 n refl slots e in
     let a-process : (i : ℕ) → no-process p i ≡ false → i < 1000000 = λ i e. below-count (length (p .processes)) 64 i refl processes e in
@@ -84,11 +76,11 @@ bounds p h =
       processes = processes;
       conditions = conditions;
       edges = ltb-false 128 (length (p .edges)) (a2 .1);
-      byte = small 1000 (p .byte) refl (inside 1 1000 (p .byte) (c3 .0));
+      byte = small 1000 (p .byte) refl (inside 1 1000 (p .byte) (c3 .0) .1);
       slot = λ s m.
-          (a-node (s .node) (none-in (λ s. no-node p (s .node)) (b4 .0) m), (small 64 (s .bytes) refl (inside 1 64 (s .bytes) (none-in wrong-slot (c3 .1) m)), tt));
+          (a-node (s .node) (none-in (λ s. no-node p (s .node)) (b4 .0) m), (small 64 (s .bytes) refl (inside 1 64 (s .bytes) (none-in wrong-slot (c3 .1) m) .1), tt));
       process = λ q m.
-          (a-node (q .node) (none-in (λ q. no-node p (q .node)) (b4 .1) m), (small 100000 (q .ticks) refl (inside 1 100000 (q .ticks) (none-in wrong-ticks (a3 .1) m)), tt));
+          (a-node (q .node) (none-in (λ q. no-node p (q .node)) (b4 .1) m), (small 100000 (q .ticks) refl (inside 1 100000 (q .ticks) (none-in wrong-ticks (a3 .1) m) .1), tt));
       condition = λ i m. (a-process i (none-in (no-process p) (neither _ _ (s5 .0) .0) m), tt);
       edge = λ e m.
           let u = neither _ _ (neither _ _ (none-in (wrong-ends p) (s6 .0) m) .0) in (
@@ -96,7 +88,7 @@ bounds p h =
             (
               a-process (e .to) (u .1),
               (
-                small 64 (e .bytes) refl (inside 1 64 (e .bytes) (none-in wrong-edge (b3 .1) m)),
+                small 64 (e .bytes) refl (inside 1 64 (e .bytes) (none-in wrong-edge (b3 .1) m) .1),
                 small-when p (e .from) (e .when) conditions (none-in (wrong-when p) (s8 .0) m),
               ),
             ),

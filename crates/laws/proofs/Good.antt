@@ -42,11 +42,12 @@ pub record Good (p : Lines) : Type 0 where
   pub decided : (e : ℕ) → e < length (p .edges) → (v : Bool) (k : ℕ) → edge p e .when ≡ on v k → (k < length (p .conditions)) × (decider p k ≡ edge p e .from)
   pub fits : (e : ℕ) → e < length (p .edges) → local p e ≡ false → edge p e .bytes ≤ slot-of p (process p (edge p e .from) .node) .bytes
 
+-- a sentence that refuses nothing does not apply
 pub pass : (n : ℕ) (b : Bool) (r : Refusal) → sentence n b r ≡ nothing → (b ≡ false) × (r ≡ nothing)
 pass n true r e = absurd (let z : _≡_ {A = ℕ} 0 1 = cc in omega arith)
 pass n false r e = (refl, e)
 
-inside : (lo hi x : ℕ) → outside lo hi x ≡ false → (lo ≤ x) × (x ≤ hi)
+pub inside : (lo hi x : ℕ) → outside lo hi x ≡ false → (lo ≤ x) × (x ≤ hi)
 unfolding outside
 inside lo hi x h = let n = neither (ltb x lo) (ltb hi x) h in (ltb-false x lo (n .0), ltb-false hi x (n .1))
 

@@ -1,16 +1,19 @@
--- An array filled one by one: what one store adds, its length, and what stands where.
+-- An array filled one by one: what one store adds, its length, what stands where, and what holds at every place.
 -- Assumes nothing.
-use mathlib.Core.Path.{_≡_, refl, sym, _∙_}
+use mathlib.Core.Path.{_≡_, refl, sym, subst, _∙_}
 use mathlib.Core.Logic.{_⊎_, inl, inr}
+use mathlib.Core.Bool.{true, false}
 use mathlib.Core.List.{List}
 use Prim.Native.Nat.{ℕ, zero, suc, _+_, _≤_, _<_}
 use native.Mathlib.Nat.{not-suc-le-zero}
 use native.Mathlib.Numerals.{add-one}
 use native.Mathlib.Omega.{arith}
+use lib.Dec.{ltb}
 use lib.ListN.{length, getD, set, replicate, length-set, length-replicate}
 use lib.Seq.{getD-set-same, getD-set-other, set-getD}
+use borrow.Author.Tests.{ltb-true, ltb-false}
 use Rattle.lists.specs.Lists.{fill}
-use Rattle.lists.proofs.Tests.{below-suc}
+use Rattle.lists.proofs.Tests.{two, below-suc}
 
 pub fill-next : (size : ℕ) (f : ℕ → ℕ) (n : ℕ) {v : ℕ} {xs : List ℕ} → xs ≡ fill size f n → v ≡ f n → set xs n v ≡ fill size f (n + 1)
 unfolding fill
@@ -52,3 +55,15 @@ module _ (size : ℕ) (f : ℕ → ℕ) where
   -- a 0 need not be stored
   pub fill-skips : (n : ℕ) {xs : List ℕ} → xs ≡ fill size f n → f n ≡ 0 → xs ≡ fill size f (n + 1)
   fill-skips n e z = e ∙ sym (set-getD (fill size f n) n 0) ∙ fill-next size f n refl (fill-past n n (omega arith) ∙ sym z)
+
+-- what holds at each number that fills an array, and of 0 past them, holds in the whole array
+pub fill-each : (P : ℕ → ℕ → Type 0) (size : ℕ) (f : ℕ → ℕ) (n : ℕ) → n ≤ size → ((k : ℕ) → k < n → P k (f k)) → ((k : ℕ) → n ≤ k → P k 0) →
+    (k : ℕ) → P k (getD (fill size f n) k 0)
+fill-each P size f n u h z k = by (two (ltb k n))
+  where
+    by : (ltb k n ≡ true) ⊎ (ltb k n ≡ false) → P k (getD (fill size f n) k 0)
+    by (inl e) = let l = ltb-true k n e in subst (P k) (sym (fill-at size f n k u l)) (h k l)
+    by (inr e) = let l = ltb-false k n e in subst (P k) (sym (fill-past size f n k l)) (z k l)
+
+pub fill-all : (P : ℕ → Type 0) (size : ℕ) (f : ℕ → ℕ) (n : ℕ) → n ≤ size → ((k : ℕ) → k < n → P (f k)) → P 0 → (k : ℕ) → P (getD (fill size f n) k 0)
+fill-all P size f n u h z = fill-each (λ k. P) size f n u h (λ k l. z)

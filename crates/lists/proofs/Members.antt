@@ -180,6 +180,16 @@ pub any-map : {A : Type 0} (f g : A → Bool) → ((x : A) → f x ≡ true → 
 any-map f g m [] h = h
 any-map f g m (x ∷ xs) h = or-map (f x) (any f xs) (g x) (any g xs) (m x) (any-map f g m xs) h
 
+-- a test that another one implies holds for some kept member where it does for some member
+pub any-kept : {A : Type 0} (f g : A → Bool) (xs : List A) → ((x : A) → f x ≡ true → g x ≡ true) → any f (keep g xs) ≡ any f xs
+any-kept f g [] h = refl
+any-kept f g (x ∷ xs) h = at (two (g x)) (two (f x)) (any-kept f g xs h)
+  where
+    at : (g x ≡ true) ⊎ (g x ≡ false) → (f x ≡ true) ⊎ (f x ≡ false) → any f (keep g xs) ≡ any f xs → any f (keep g (x ∷ xs)) ≡ any f (x ∷ xs)
+    at (inl p) q e = rw p (ap (λ (z : Bool). f x || z) e)
+    at (inr p) (inl q) e = clash (h x q) p
+    at (inr p) (inr q) e = rw (p, q) e
+
 pub any-left : {A : Type 0} (f : A → Bool) (xs ys : List A) → any f xs ≡ true → any f (xs ++ ys) ≡ true
 any-left f [] ys h = absurd (false≢true h)
 any-left f (x ∷ xs) ys h = or-map (f x) (any f xs) (f x) (any f (xs ++ ys)) (λ e. e) (any-left f xs ys) h

@@ -1,11 +1,12 @@
--- A run of stores: of one list after another, of a list at the front, and what stands where afterwards.
+-- A run of stores: of one list after another, of a list at the front, what stands where afterwards, and a list stored one by one.
 -- Assumes nothing.
-use mathlib.Core.Path.{_≡_, refl, ap, _∙_}
+use mathlib.Core.Path.{_≡_, refl, sym, ap, _∙_}
 use mathlib.Core.List.{List, [], _∷_, _++_, append-nil}
 use Prim.Native.Nat.{ℕ, zero, suc, _+_, _≤_, _<_}
+use native.Mathlib.Numerals.{add-one}
 use native.Mathlib.Omega.{arith}
-use lib.ListN.{length, getD, set, take, drop, length-set}
-use lib.Seq.{sets, sets-eq, set-set, set-comm, drop-length, take-append-seam, getD-set-same, getD-set-other}
+use lib.ListN.{length, getD, set, take, drop, drop-of-length-le, length-set}
+use lib.Seq.{sets, sets-eq, set-set, set-comm, drop-cons, drop-length, take-append-seam, getD-set-same, getD-set-other}
 use Rattle.lists.specs.Front.{front}
 
 module _ {A : Type 0} where
@@ -55,3 +56,13 @@ sets-at xs i (v ∷ vs) zero l r =
 sets-at xs i (v ∷ vs) (suc n) l r =
     let q : i + suc n ≡ suc i + n = omega arith in
     ap (λ (j : ℕ). getD (sets (set xs i v) (suc i) vs) j 0) q ∙ sets-at (set xs i v) (suc i) vs n (omega arith) (omega (arith, length-set xs i v))
+
+-- a list stored one by one: before turn r what is left to store gives the whole, and after the last turn nothing is left
+pub stores-next : {A : Type 0} (d : A) (xs : List A) (at r : ℕ) (all : List A) {whole : List A} → r < length xs → sets all (at + r) (drop r xs) ≡ whole →
+    sets (set all (at + r) (getD xs r d)) (at + (r + 1)) (drop (r + 1) xs) ≡ whole
+stores-next d xs at r all l e =
+    let q : at + (r + 1) ≡ suc (at + r) = omega arith in
+    (λ i. sets (set all (at + r) (getD xs r d)) (q i) (drop (add-one r i) xs)) ∙ ap (sets all (at + r)) (sym (drop-cons xs r d l)) ∙ e
+
+pub stores-end : {A : Type 0} (xs : List A) (at r : ℕ) (all : List A) {whole : List A} → length xs ≤ r → sets all (at + r) (drop r xs) ≡ whole → all ≡ whole
+stores-end xs at r all l e = ap (sets all (at + r)) (sym (drop-of-length-le xs {i = r} l)) ∙ e

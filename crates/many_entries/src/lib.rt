@@ -2,6 +2,7 @@
 use board::of_plan;
 use formed::ill_formed;
 use judging::Checked;
+use mask::combinations_of;
 use plan::Plan;
 use words::read_words;
 ghost use mathlib.Core.Path.{_≡_};
@@ -64,7 +65,7 @@ pub fn check_many(p: Plan, bytes: &[u8], n: usize, delay: u64) -> Checked
     ensures { λ r. ⌜ r ≡ answer-of (table-refusal (lines p) (words-of (now (bytes .entry))) delay) ⌝ }
 {
     let b = of_plan(p);
-    let combinations = formed::how_many(b.conditions);
+    let combinations = combinations_of(b.conditions);
     let remote = b.remote;
     if some_ill_formed(bytes, n, b.processes, b.tell, b.rows, combinations, &remote) {
         return Checked::Refused(13);

@@ -1,7 +1,7 @@
-// Masks of up to six conditions, and of up to eight nodes: the members of a mask lowest first, their number, and a mask built from its highest bit down.
+// Masks of up to six conditions, and of up to eight nodes: the members of a mask lowest first, their number, and a mask built from its highest bit down; and how many combinations there are.
 ghost use mathlib.Core.Path.{_≡_};
 ghost use mathlib.Core.List.{_∷_};
-ghost use Prim.Native.Nat.{_<_};
+ghost use Prim.Native.Nat.{_^_, _≤_, _<_};
 ghost use lib.ListN.{length, drop};
 ghost use Rattle.lists.specs.Lists.{null};
 ghost use Rattle.mask.specs.Masks.{members, nodes, under};
@@ -74,4 +74,18 @@ pub fn with_node(mask: u32, set: bool) -> u32
         return mask * 2 + 1;
     }
     mask * 2
+}
+
+// How many combinations some conditions have.
+pub fn combinations_of(conditions: usize) -> u32
+    requires { ⌜ conditions ≤ 6 ⌝ }
+    ensures { λ r. ⌜ (r ≡ 2 ^ conditions) × (r ≤ 64) ⌝ }
+{
+    let mut n: u32 = 1;
+    let mut k: usize = 0;
+    while k < conditions {
+        n = n * 2;
+        k += 1;
+    }
+    n
 }

@@ -11,9 +11,9 @@ use Rattle.lists.proofs.Tests.{neither}
 use Rattle.model.specs.Plan.{Lines}
 use Rattle.model.specs.Refusals.{wrong-counts, plan-refusal}
 use Rattle.model.specs.Text.{Reading, not-read, after-refusal, Answers-text, too-long, of-no-form, of-form}
+use Rattle.laws.proofs.Good.{inside}
 use Rattle.grammar.specs.Parse.{none, got, head-at, lines-at, no-lines, got-lines, to-end, read-lines}
 use Rattle.grammar.proofs.Parsed.{not-lines}
-use Rattle.grammar.proofs.Bounds.{inside}
 use Rattle.grammar.proofs.Whole.{read-means, means-read}
 use Rattle.plan.specs.Memory.{pick-of, slot-of, no-slot, process-of, no-process, edge-of, no-edge, lines}
 use Rattle.plan.specs.declared.Pick.{Pick}
@@ -101,8 +101,8 @@ module _ {text : List ℕ} {byte : ℕ} (pick : Pick) {i j k l end : ℕ} {s q c
       let v = neither _ _ (u .0) in
       let w = neither _ _ (v .0) in
       rw (
-        slots .held (rw (slots .all) (inside 1 8 (length (slots .lines)) (w .0))),
-        processes .held (rw (processes .all) (inside 1 64 (length (processes .lines)) (w .1))),
+        slots .held (rw (slots .all) (inside 1 8 (length (slots .lines)) (w .0) .1)),
+        processes .held (rw (processes .all) (inside 1 64 (length (processes .lines)) (w .1) .1)),
         conditions .held (rw (conditions .all) (ltb-false 6 (length (conditions .lines)) (v .1))),
         edges .held (rw (edges .all) (ltb-false 128 (length (edges .lines)) (u .1))),
       )

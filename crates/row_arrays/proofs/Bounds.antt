@@ -10,8 +10,8 @@ use lib.Dec.{ltb}
 use borrow.Author.Tests.{ltb-true}
 use Rattle.lists.specs.Lists.{if_then_else_}
 use Rattle.lists.proofs.Tests.{two}
+use Rattle.lists.proofs.Fill.{fill-all}
 use Rattle.plan.specs.Refusing.{at}
-use Rattle.by_key.proofs.Everywhere.{fill-all}
 use Rattle.row_arrays.specs.Rowed.{process-of-row, senders-by-row}
 
 -- a row belongs to a process

@@ -2,7 +2,7 @@
 -- Assumes nothing.
 use mathlib.Core.Path.{_≡_, refl, sym, ap, _∙_, subst}
 use mathlib.Core.Logic.{_⊎_, inl, inr}
-use mathlib.Core.Bool.{Bool, true, false, not, _&&_, _||_}
+use mathlib.Core.Bool.{Bool, true, false, not, _&&_, _||_, or-comm}
 use mathlib.Core.List.{List, [], _∷_, List·Memᴰ as In, List·Memᴰ·head as here, List·Memᴰ·tail as there}
 use Prim.Native.Nat.{ℕ, zero, suc, _+_, _-_, _≤_, _<_}
 use native.Mathlib.Omega.{arith}
@@ -12,7 +12,7 @@ use lib.Seq.{getD-set-same, getD-set-other}
 use borrow.Author.Tests.{eqb-true, eqb-false, eq-eqb, ne-eqb, ltb-true, ltb-false, leb-true, lt-ltb, le-ltb, le-leb}
 use Rattle.lists.specs.Lists.{if_then_else_, any, keep, below, repeated}
 use Rattle.lists.proofs.Tests.{two, both, clash, and-false, or-false, or-right}
-use Rattle.lists.proofs.Members.{any-same, keep-in, below-in}
+use Rattle.lists.proofs.Members.{any-same, any-kept, keep-in, below-in}
 use Rattle.lists.proofs.Keep.{keep-same}
 use Rattle.lists.proofs.Different.{keep-different, different-parts, different-upfrom}
 use Rattle.mask.specs.Masks.{members, mask-from}
@@ -469,22 +469,6 @@ module _ (u end : ℕ) (late : u < end) where
         ∙ tell-left r ks (laid end (tell + k) 1 s) (different-parts k ks d .1) still (λ j m. omega (arith, low j (there m), length-set (s .comes) (tell + k) end))
         ∙ sym (more r (length ks))
 
--- a test that another one implies holds for some kept member where it does for some member
-any-kept : (f g : ℕ → Bool) (xs : List ℕ) → ((x : ℕ) → f x ≡ true → g x ≡ true) → any f (keep g xs) ≡ any f xs
-any-kept f g [] h = refl
-any-kept f g (x ∷ xs) h = at (two (g x)) (two (f x)) (any-kept f g xs h)
-  where
-    at : (g x ≡ true) ⊎ (g x ≡ false) → (f x ≡ true) ⊎ (f x ≡ false) → any f (keep g xs) ≡ any f xs → any f (keep g (x ∷ xs)) ≡ any f (x ∷ xs)
-    at (inl p) q e = rw p (ap (λ (z : Bool). f x || z) e)
-    at (inr p) (inl q) e = clash (h x q) p
-    at (inr p) (inr q) e = rw (p, q) e
-
-or-swap : (a b : Bool) → (a || b) ≡ (b || a)
-or-swap true true = refl
-or-swap true false = refl
-or-swap false true = refl
-or-swap false false = refl
-
 -- a slot leaves as many rows as there were
 pub send-long : (processes tell conditions : ℕ) (decider node queue from cue unmet bytes : List ℕ) (n a b room u end : ℕ) → u < end → (comes place : List ℕ) →
     length (send-by processes tell conditions decider node queue from cue unmet bytes n a b room u end comes place .comes) ≡ length comes
@@ -568,7 +552,7 @@ module _ (processes tell conditions : ℕ) (decider node queue from cue unmet by
       ≡ send-by processes tell conditions decider node queue from cue unmet bytes n a b room u end comes place .short
   unfolding pending-by send-by tells-sent all-told
   left-pending =
-      or-swap (any (waits u end late processes from cue unmet bytes room (last .comes)) es) (any (tells u end late tell decider node n (last .comes)) (below conditions))
+      or-comm (any (waits u end late processes from cue unmet bytes room (last .comes)) es) (any (tells u end late tell decider node n (last .comes)) (below conditions))
       ∙ (λ j. (told ∙ sym (tell-short u end late tell decider node n room ks start)) j || any (waits u end late processes from cue unmet bytes room (last .comes)) es)
       ∙ sym (send-left u end late processes from cue unmet bytes room es first (λ e m. omega (arith, rows e m, long, tell-long u end late tell decider node n room ks start)))
     where

@@ -21,8 +21,8 @@ returns c = let a = c .before .before .args in answer-12 (lines (a .p)) (a .tabl
 of-plan-requires : tie.Need-of-plan-requires
 of-plan-requires c κs = search needs
 
-how-many-requires : tie.Need-how-many-requires
-how-many-requires c κs = search needs
+combinations-of-requires : tie.Need-combinations-of-requires
+combinations-of-requires c κs = search needs
 
 some-ill-formed-requires : tie.Need-some-ill-formed-requires
 some-ill-formed-requires c κs = search needs
@@ -37,7 +37,7 @@ returns-2 c =
     let a = known .before .args in
     let small : Small (a .table .now) = λ i l. omega (arith, known .shared-slice-known .given i) in
     answer-13 (lines (a .p)) (a .table .now) (a .delay) (e .if1 .left)
-    (formed-told (lines (a .p)) (board .of-plan .result) (board .of-plan .ensures) (many .how-many .result) (many .how-many .ensures .0) (a .table .now) small
+    (formed-told (lines (a .p)) (board .of-plan .result) (board .of-plan .ensures) (many .combinations-of .result) (many .combinations-of .ensures .0) (a .table .now) small
     (told .some-ill-formed .ensures) (c .if2 .taken))
 
 try-all-requires : tie.Need-try-all-requires
@@ -56,11 +56,11 @@ try-all-requires c κs =
         boarded = board .of-plan .ensures;
         fives = e .if1 .left;
         formed =
-            formed-told (lines (a .p)) (board .of-plan .result) (board .of-plan .ensures) (many .how-many .result) (many .how-many .ensures .0) (a .table .now) small
+            formed-told (lines (a .p)) (board .of-plan .result) (board .of-plan .ensures) (many .combinations-of .result) (many .combinations-of .ensures .0) (a .table .now) small
             (told .some-ill-formed .ensures) (c .if2 .left);
         small = small;
       },
-      many .how-many .ensures .0,
+      many .combinations-of .ensures .0,
     )
 
 judged-requires : tie.Need-judged-requires
@@ -85,13 +85,13 @@ returns-3 c =
       boarded = board .of-plan .ensures;
       fives = e .if1 .left;
       formed =
-          formed-told (lines (a .p)) (board .of-plan .result) (board .of-plan .ensures) (many .how-many .result) (many .how-many .ensures .0) (a .table .now) small
+          formed-told (lines (a .p)) (board .of-plan .result) (board .of-plan .ensures) (many .combinations-of .result) (many .combinations-of .ensures .0) (a .table .now) small
           (told .some-ill-formed .ensures) (rest .if2 .left);
       small = small;
     } in
     c .judged .ensures
     ∙ ap (λ (f : Found). judged-by f (a .delay))
-    (tried .try-all .ensures ∙ ap (λ (n : ℕ). found-all (board .of-plan .result) (a .table .now) n) (many .how-many .ensures .0))
+    (tried .try-all .ensures ∙ ap (λ (n : ℕ). found-all (board .of-plan .result) (a .table .now) n) (many .combinations-of .ensures .0))
     ∙ all-judged (board .of-plan .result) (a .table .now) t (a .delay)
     ∙ answer-later (lines (a .p)) (a .table .now) (a .delay) (e .if1 .left) (t .formed)
 
@@ -101,7 +101,7 @@ check-words-spec =
     (tie.spec
     returns
     of-plan-requires
-    how-many-requires
+    combinations-of-requires
     some-ill-formed-requires
     returns-2
     try-all-requires

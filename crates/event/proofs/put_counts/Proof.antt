@@ -6,7 +6,7 @@ use native.Mathlib.Omega.{arith}
 use lib.ListN.{drop}
 use lib.Seq.{sets}
 use borrow.Author.Needs.{needs}
-use Rattle.event.proofs.Loops.{stores-next, stores-end}
+use Rattle.lists.proofs.Stores.{stores-next, stores-end}
 use Rattle.event.proofs.put_counts.Statement.{statement}
 use Rattle.event.proofs.put_counts.Tie as tie
 
@@ -47,7 +47,7 @@ loop-again : tie.Need-loop-again Inv-loop μ-loop
 loop-again c =
     let l = c .before .before in
     let a = l .before .args in
-    (omega arith, stores-next (a .passed .now) (a .at) (l .loop .n) (l .loop .noted) (omega (arith, l .before .pre .1, c .before .loop-test .taken)) (l .loop .inv .1))
+    (omega arith, stores-next 0 (a .passed .now) (a .at) (l .loop .n) (l .loop .noted) (omega (arith, l .before .pre .1, c .before .loop-test .taken)) (l .loop .inv .1))
 
 returns : tie.Need-returns Inv-loop μ-loop
 returns c =

@@ -17,8 +17,8 @@ use Rattle.many_entries.proofs.check_many.Tie as tie
 of-plan-requires : tie.Need-of-plan-requires
 of-plan-requires c κs = search needs
 
-how-many-requires : tie.Need-how-many-requires
-how-many-requires c κs = search needs
+combinations-of-requires : tie.Need-combinations-of-requires
+combinations-of-requires c κs = search needs
 
 some-ill-formed-requires : tie.Need-some-ill-formed-requires
 some-ill-formed-requires c κs = search needs
@@ -34,7 +34,7 @@ returns c =
     let words = words-of (a .bytes .now) in
     let small : Small words = words-small (a .bytes .now) (λ i. omega (arith, known .shared-slice-known .given i)) in
     answer-13 (lines (a .p)) words (a .delay) (ap (λ (n : ℕ). n % 5) (sym (s .pre .1 .0)) ∙ s .pre .1 .1)
-    (formed-told (lines (a .p)) (board .of-plan .result) (board .of-plan .ensures) (many .how-many .result) (many .how-many .ensures .0) words small
+    (formed-told (lines (a .p)) (board .of-plan .result) (board .of-plan .ensures) (many .combinations-of .result) (many .combinations-of .ensures .0) words small
     (told .some-ill-formed .ensures) (c .if1 .taken))
 
 returns-2 : tie.Need-returns-2
@@ -48,9 +48,9 @@ returns-2 c =
     let words = words-of (a .bytes .now) in
     let small : Small words = words-small (a .bytes .now) (λ i. omega (arith, known .shared-slice-known .given i)) in
     answer-14 (lines (a .p)) words (a .delay) (s .pre .0) (ap (λ (n : ℕ). n % 5) (sym (s .pre .1 .0)) ∙ s .pre .1 .1)
-    (formed-told (lines (a .p)) (board .of-plan .result) (board .of-plan .ensures) (many .how-many .result) (many .how-many .ensures .0) words small
+    (formed-told (lines (a .p)) (board .of-plan .result) (board .of-plan .ensures) (many .combinations-of .result) (many .combinations-of .ensures .0) words small
     (told .some-ill-formed .ensures) (c .if1 .left))
     (omega (arith, s .pre .1 .0, s .pre .1 .2))
 
 pub check-many-spec : {M : Type 1} → statement M
-check-many-spec = tie.close (tie.spec of-plan-requires how-many-requires some-ill-formed-requires returns returns-2)
+check-many-spec = tie.close (tie.spec of-plan-requires combinations-of-requires some-ill-formed-requires returns returns-2)

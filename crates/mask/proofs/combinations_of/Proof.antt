@@ -1,13 +1,13 @@
--- `courses::how_many` meets its contract: before turn k there are two for each of the first k conditions.
+-- `mask::combinations_of` meets its contract: before turn k there are two for each of the first k conditions.
 -- Assumes nothing.
 use mathlib.Core.Path.{_≡_, sym, ap, _∙_}
 use Prim.Native.Nat.{ℕ, _≤_, _-_, _*_, _^_}
 use native.Mathlib.Nat.{pow-suc, pow-le-pow-right}
 use native.Mathlib.Numerals.{add-one}
 use native.Mathlib.Omega.{arith}
-use Rattle.courses.proofs.how_many.Statement.{statement}
 use borrow.Author.Needs.{needs}
-use Rattle.courses.proofs.how_many.Tie as tie
+use Rattle.mask.proofs.combinations_of.Statement.{statement}
+use Rattle.mask.proofs.combinations_of.Tie as tie
 
 abbrev Inv-loop : tie.InvT-loop
 Inv-loop conditions n₀ k₀ n k = (k ≤ conditions) × (n ≡ 2 ^ k)
@@ -31,7 +31,9 @@ loop-less : tie.Need-loop-less Inv-loop μ-loop
 loop-less c = search needs
 
 loop-again : tie.Need-loop-again Inv-loop μ-loop
-loop-again c = (omega arith, ap (λ (x : ℕ). x * 2) (c .before .loop .inv .1) ∙ omega (arith, pow-suc 2 (c .before .loop .k)) ∙ ap (λ (x : ℕ). 2 ^ x) (sym (add-one (c .before .loop .k))))
+loop-again c =
+    let l = c .before .loop in
+    (omega arith, ap (λ (x : ℕ). x * 2) (l .inv .1) ∙ omega (arith, pow-suc 2 (l .k)) ∙ ap (λ (x : ℕ). 2 ^ x) (sym (add-one (l .k))))
 
 returns : tie.Need-returns Inv-loop μ-loop
 returns c =
@@ -39,6 +41,6 @@ returns c =
     let q : l .loop .k ≡ l .before .args .conditions = omega arith in
     (l .loop .inv .1 ∙ ap (λ (x : ℕ). 2 ^ x) q, omega (arith, l .loop .inv .1, few (l .loop .k) (omega arith)))
 
-pub how-many-spec : {M : Type 1} → statement M
-how-many-spec =
+pub combinations-of-spec : {M : Type 1} → statement M
+combinations-of-spec =
     tie.close (tie.spec Inv-loop μ-loop loop-holds mul-n add-k loop-less loop-again returns)
