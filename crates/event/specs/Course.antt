@@ -10,9 +10,10 @@ use lib.Dec.{eqb, leb, ltb}
 use lib.ListN.{getD, replicate}
 use lib.Seq.{sets}
 use Rattle.lists.specs.Lists.{if_then_else_, below, repeated}
-use Rattle.readiness.specs.Reading.{part, edges-into, may-run-by, Within}
+use Rattle.readiness.specs.Reading.{part, edges-into, Within}
 use Rattle.timetable.specs.Bus.{beginning-at}
 use Rattle.starting.specs.Starting.{Ends, starts-by}
+use Rattle.runnable.specs.Hearing.{heard-by}
 use Rattle.serving.specs.Serving.{no-event, Bus, bus, waiting-in, pending-in, fill-by}
 use Rattle.board.specs.declared.Board.{Board}
 
@@ -38,11 +39,6 @@ pub record Moment : Type 0 where
 abbrev pub moment : ℕ → ℕ → ℕ → ℕ → List ℕ → List ℕ → List ℕ → List ℕ → List ℕ → List ℕ → Moment
 moment u come flight told run busy comes place passed noted =
     record { u = u; come = come; flight = flight; told = told; run = run; busy = busy; comes = comes; place = place; passed = passed; noted = noted }
-
--- What may run is worked out again where a value becomes known.
-unfoldable pub heard-by : ℕ → ℕ → ℕ → List ℕ → List ℕ → List ℕ → List ℕ → List ℕ → List ℕ → List ℕ → List ℕ → List ℕ
-heard-by told u processes from cue unmet comes several intofirst into run =
-    if eqb told u then may-run-by from cue unmet comes u several intofirst into processes else run
 
 -- The counts are noted for the conditions below n whose values become known at the clock; and where any does.
 unfoldable pub notes-below : List ℕ → ℕ → ℕ → List ℕ → ℕ → List ℕ → List ℕ

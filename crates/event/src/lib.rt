@@ -1,6 +1,6 @@
 // One event of the planning of a combination: a process ends, a slot that carries something ends, or a slot begins whose node has a ready
 // item. specs/Course.antt says what an event does and when the next one is, specs/Kept.antt what is kept from event to event so that nothing is worked out twice.
-use runnable::may_run;
+use runnable::heard;
 use serving::attend;
 use serving::serve;
 use starting::news;
@@ -16,7 +16,7 @@ ghost use Rattle.model.specs.Listing.{bit};
 ghost use Rattle.readiness.specs.Reading.{Within};
 ghost use Rattle.starting.specs.Quiet.{Quiet};
 ghost use Rattle.starting.specs.News.{new-at, Soonest};
-ghost use Rattle.event.specs.Course.{moment, notes-below, note-by, heard-by, begun-by, sooner-by, come-by, next, Fits, board-of};
+ghost use Rattle.event.specs.Course.{moment, notes-below, note-by, begun-by, sooner-by, come-by, next, Fits, board-of};
 ghost use Rattle.event.specs.Kept.{served-by, event-now, Kept, Queued};
 ghost use Rattle.event.specs.Ending.{Ending, ends-now, changes-at};
 
@@ -85,38 +85,6 @@ fn note<'a>(
         return;
     }
     note_all(u, tell, conditions, comes, passed, noted);
-}
-
-// Which processes may run: worked out again where a value becomes known at this clock.
-fn heard<'a>(
-    told: u32,
-    u: u32,
-    processes: usize,
-    from: &'a [u32; 128],
-    cue: &'a [u32; 128],
-    unmet: &'a [u32; 128],
-    comes: &'a [u32; 198],
-    several: &'a [u32; 64],
-    intofirst: &'a [u32; 65],
-    into: &'a [u32; 128],
-    run: &mut [u32; 64],
-)
-    requires { ⌜ (processes ≤ 64) × ((k : ℕ) → getD (now intofirst) k 0 ≤ 128) × Within (now from) (now cue) (now into) ⌝ }
-    ensures { λ _. ⌜ now (run .exit) ≡ heard-by told u processes (now (from .entry)) (now (cue .entry)) (now (unmet .entry)) (now (comes .entry)) (now (several .entry)) (now (intofirst .entry)) (now (into .entry)) (now (run .entry)) ⌝ }
-{
-    if told == u {
-        *run = may_run(
-            processes,
-            from,
-            cue,
-            unmet,
-            comes,
-            several,
-            intofirst,
-            into,
-            u,
-        );
-    }
 }
 
 // The mask of the nodes for which something is new at clock u, where a row is over at it. Where none is, it is empty.
