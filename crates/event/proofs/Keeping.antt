@@ -18,18 +18,20 @@ use Rattle.readiness.specs.Reading.{came-by, part, edges-into}
 use Rattle.timetable.specs.Bus.{beginning-at}
 use Rattle.starting.specs.Starting.{Ends, starts-by}
 use Rattle.starting.specs.Quiet.{Idle, Quiet}
-use Rattle.starting.specs.News.{new-at, Soonest}
+use Rattle.starting.specs.News.{Soonest}
 use Rattle.starting.proofs.Quiet.{Alike, idle-stays, starts-idle}
 use Rattle.starting.proofs.Ends.{set-there}
 use Rattle.slot_items.proofs.Left.{placed-row}
 use Rattle.board.specs.declared.Board.{Board}
 use Rattle.slot_items.specs.Packing.{stir-by}
+use Rattle.clocks.specs.Clocks.{no-event, new-at, served-by, sooner-by, come-by, ends-now, changes-at, event-now}
+use Rattle.clocks.proofs.Firsts.{First, found, missing, first-below}
 use Rattle.runnable.specs.Hearing.{heard-by}
-use Rattle.serving.specs.Serving.{no-event, Bus, bus, fill-by, due-from, attend-below, attend-by, Waiting, Roomy, Attended-all}
-use Rattle.event.specs.Course.{last-event, Moment, moment, begins-by, begun-by, come-by, sooner-by, next-slot, event-by, hears, begins-with, serves, waiting, messages, notes, next, Fits}
-use Rattle.event.specs.Kept.{served-by, event-now, Past, past, under-way, Kept, Queued, Begins}
-use Rattle.event.specs.Ending.{Ending, ends-now, changes-at}
-use Rattle.event.proofs.Ahead.{sooner-least, come-after, come-flight, come-busy, come-most, come-new, event-come, event-slot, event-after, First, found, missing, first-below}
+use Rattle.serving.specs.Serving.{Bus, bus, fill-by, due-from, attend-below, attend-by, Waiting, Roomy, Attended-all}
+use Rattle.event.specs.Course.{last-event, Moment, moment, begins-by, begun-by, next-slot, event-by, hears, begins-with, serves, waiting, messages, notes, next, Fits}
+use Rattle.event.specs.Kept.{Past, past, under-way, Kept, Queued, Begins}
+use Rattle.event.specs.Ending.{Ending}
+use Rattle.event.proofs.Ahead.{sooner-least, come-after, come-flight, come-busy, come-most, come-new, event-come, event-slot, event-after}
 use Rattle.event.proofs.Endings.{unchanged, ends-right, ending-next}
 use Rattle.event.proofs.Beginnings.{beginning-same, past-later, past-ends}
 use Rattle.event.proofs.Filling.{Filled, left, broadcast, message, fill-row, fill-told, fill-flight, fill-long}
