@@ -86,7 +86,7 @@ module _ (b : Board) (unmet : List ℕ) where
   pub begins-read : (start : ℕ) (busy comes : List ℕ) → Begins b unmet start busy comes → Begins read unmet start busy comes
   unfolding board-of
   begins-read start busy comes s =
-      record { told-apart = s .told-apart; ends-most = s .ends-most; ends-last = s .ends-last; items-past = s .items-past; busy-long = s .busy-long }
+      record { told-apart = s .told-apart; ends-last = s .ends-last; items-past = s .items-past; busy-long = s .busy-long }
 
   leads-read : (m e : Moment) → Leads read unmet m e → Leads b unmet m e
   unfolding board-of next hears begins-with serves waiting notes moves

@@ -54,11 +54,10 @@ pub record Queued (b : Board) (unmet : List ℕ) (m : Moment) (wait waitend : Li
   pub roomy : Roomy wait waitend
   pub waits : (n : ℕ) → n < b .slots → (m .told ≡ m .u → ⊥) → (getD (m .busy) n 0 ≡ m .u → ⊥) → Waiting (b .queuefirst) wait waitend n (messages b unmet (m .comes) (m .u) n)
 
--- What planning may begin from at a clock: an edge that is not met goes by a condition; `busy` has the ends of the nodes' last processes, and of the processes
--- of a node only the last may end after the clock; no item is under way.
+-- What planning may begin from at a clock: an edge that is not met goes by a condition; of the processes of a node only the last may end after the clock, and
+-- `busy` has its end; no item is under way.
 pub record Begins (b : Board) (unmet : List ℕ) (start : ℕ) (busy comes : List ℕ) : Type 0 where
   pub told-apart : (e : ℕ) → (getD unmet e 0 ≡ 0 → ⊥) → (k : ℕ) × (k < b .conditions) × (getD (b .cue) e 0 ≡ b .tell + k)
-  pub ends-most : (i : ℕ) → i < b .processes → getD comes i 0 ≤ getD busy (getD (b .node) i 0) 0
   pub ends-last : (i : ℕ) → i < b .processes → (getD comes i 0 ≤ start) ⊎ (getD comes i 0 ≡ getD busy (getD (b .node) i 0) 0)
   pub items-past : (r : ℕ) → b .processes ≤ r → getD comes r 0 ≤ start
   pub busy-long : length busy ≡ 8
