@@ -67,9 +67,9 @@ module _ (b : Board) (f : Fits b) (unmet : List ℕ) where
   idle-by run v comes n = Idle (b .processes) (b .remote) (b .from) (b .cue) unmet run (b .several) (b .intofirst) (b .into) v (b .turnfirst) (b .turn) comes n
 
   -- at the start
-  pub kept-start : (u flight : ℕ) (run busy comes place passed noted stirred due : List ℕ) → 1 ≤ u → flight ≤ u → length comes ≡ 198 → Begins b unmet u busy comes → stirred ≡ replicate 8 u → due ≡ replicate 8 no-event →
-      Kept b unmet (moment u u flight u run busy comes place passed noted) stirred due
-  kept-start u flight run busy comes place passed noted stirred due l o long s sq dq =
+  pub kept-start : (u : ℕ) (run busy comes place passed noted stirred due : List ℕ) → 1 ≤ u → length comes ≡ 198 → Begins b unmet u busy comes → stirred ≡ replicate 8 u → due ≡ replicate 8 no-event →
+      Kept b unmet (moment u u 0 u run busy comes place passed noted) stirred due
+  kept-start u run busy comes place passed noted stirred due l long s sq dq =
       let at : (n : ℕ) → n < b .slots → getD stirred n 0 ≡ u = λ n j. ap (λ (xs : List ℕ). getD xs n 0) sq ∙ each-at 8 u n (omega (arith, f .few-slots)) in
       record {
         from-one = l;
@@ -77,7 +77,7 @@ module _ (b : Board) (f : Fits b) (unmet : List ℕ) where
         come-from = omega arith;
         end-over = λ n j q. refl;
         stirred-over = λ n j q. refl;
-        flight-past = past o;
+        flight-past = past (omega arith);
         items = λ r j. inl (s .items-past r j);
         told-with = inl (omega arith);
         told-stirs = λ n j. inr (at n j);
@@ -95,8 +95,8 @@ module _ (b : Board) (f : Fits b) (unmet : List ℕ) where
       }
 
   -- no message is listed then, and every node is looked at as the first event begins
-  pub queued-start : (u flight : ℕ) (run busy comes place passed noted wait waitend : List ℕ) → wait ≡ replicate 128 0 → waitend ≡ replicate 8 0 → Queued b unmet (moment u u flight u run busy comes place passed noted) wait waitend
-  queued-start u flight run busy comes place passed noted wait waitend p q =
+  pub queued-start : (u : ℕ) (run busy comes place passed noted wait waitend : List ℕ) → wait ≡ replicate 128 0 → waitend ≡ replicate 8 0 → Queued b unmet (moment u u 0 u run busy comes place passed noted) wait waitend
+  queued-start u run busy comes place passed noted wait waitend p q =
       record {
         roomy =
             record {

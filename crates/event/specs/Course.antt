@@ -146,10 +146,10 @@ module _ (b : Board) (unmet : List ℕ) where
     pub counts : passed ≡ end .passed
     pub notes-end : noted ≡ end .noted
 
--- planning from a clock on: what may run is not known yet
-unfoldable pub from-clock : ℕ → ℕ → List ℕ → List ℕ → List ℕ → List ℕ → List ℕ → Moment
-from-clock u flight busy comes place passed noted =
-    record { u = u; come = u; flight = flight; told = u; run = replicate 64 0; busy = busy; comes = comes; place = place; passed = passed; noted = noted }
+-- planning from a clock on: what may run is not known yet, and no slot is under way
+unfoldable pub from-clock : ℕ → List ℕ → List ℕ → List ℕ → List ℕ → List ℕ → Moment
+from-clock u busy comes place passed noted =
+    record { u = u; come = u; flight = 0; told = u; run = replicate 64 0; busy = busy; comes = comes; place = place; passed = passed; noted = noted }
 
 -- what the arrays index, how large their numbers are, what they say of each other, and how the slots lie
 pub record Fits (b : Board) : Type 0 where
