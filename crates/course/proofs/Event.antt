@@ -39,9 +39,12 @@ use Rattle.slot_items.specs.Items.{Items}
 use Rattle.slot_items.proofs.Links.{pending-link, send-held, send-short, send-either, send-untold, send-processes}
 use Rattle.board.specs.declared.Board.{Board}
 use Rattle.board.specs.Board.{Boarded}
+use Rattle.clocks.specs.Clocks.{come-by}
+use Rattle.clocks.proofs.Firsts.{First, found, missing, first-below}
+use Rattle.runnable.specs.Hearing.{heard-by}
 use Rattle.serving.specs.Serving.{Bus, bus, filled, fill-by, pending-in}
-use Rattle.event.specs.Course.{last-event, Moment, heard-by, begun-by, begins-by, slot-at-by, serve-by, come-by, next-slot, event-by, hears, begins-with, serves, waiting, moves, next, notes-below, note-by, notes}
-use Rattle.event.proofs.Ahead.{come-after, come-flight, come-busy, event-come, event-slot, event-after, First, found, missing, first-below}
+use Rattle.event.specs.Course.{last-event, Moment, begun-by, begins-by, slot-at-by, serve-by, next-slot, event-by, hears, begins-with, serves, waiting, moves, next, notes-below, note-by, notes}
+use Rattle.event.proofs.Ahead.{come-after, come-flight, come-busy, event-come, event-slot, event-after}
 use Rattle.course.proofs.Noting.{notes-long, notes-at}
 use Rattle.course.proofs.Standing.{Slot-end, past, ahead, slot-end-later, At}
 

@@ -18,12 +18,12 @@ module _ (b : Board) (unmet : List ℕ) where
     pub counts-low : (k : ℕ) → getD (m .passed) k 0 ≤ m .u
     pub counts-long : length (m .passed) ≡ 8
 
-  pub going-start : (u flight : ℕ) {run : List ℕ} (busy comes place passed noted : List ℕ) → run ≡ replicate 64 0 → 1 ≤ u → ((k : ℕ) → getD passed k 0 ≤ u) → length passed ≡ 8 →
-      Going (from-clock u flight busy comes place passed noted) (moment u u flight u run busy comes place passed noted)
+  pub going-start : (u : ℕ) {run : List ℕ} (busy comes place passed noted : List ℕ) → run ≡ replicate 64 0 → 1 ≤ u → ((k : ℕ) → getD passed k 0 ≤ u) → length passed ≡ 8 →
+      Going (from-clock u busy comes place passed noted) (moment u u 0 u run busy comes place passed noted)
   unfolding from-clock
-  going-start u flight busy comes place passed noted q l h n =
+  going-start u busy comes place passed noted q l h n =
       record {
-        leads = λ e r. subst (λ (xs : List ℕ). Leads b unmet (moment u u flight u xs busy comes place passed noted) e) q r;
+        leads = λ e r. subst (λ (xs : List ℕ). Leads b unmet (moment u u 0 u xs busy comes place passed noted) e) q r;
         from-one = l;
         counts-low = h;
         counts-long = n;
@@ -86,7 +86,7 @@ module _ (b : Board) (unmet : List ℕ) where
   pub begins-read : (start : ℕ) (busy comes : List ℕ) → Begins b unmet start busy comes → Begins read unmet start busy comes
   unfolding board-of
   begins-read start busy comes s =
-      record { told-apart = s .told-apart; ends-most = s .ends-most; ends-last = s .ends-last; items-past = s .items-past; busy-long = s .busy-long }
+      record { told-apart = s .told-apart; ends-last = s .ends-last; items-past = s .items-past; busy-long = s .busy-long }
 
   leads-read : (m e : Moment) → Leads read unmet m e → Leads b unmet m e
   unfolding board-of next hears begins-with serves waiting notes moves

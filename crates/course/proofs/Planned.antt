@@ -30,30 +30,29 @@ use Rattle.starting.proofs.Ends.{busy-none}
 use Rattle.board.specs.declared.Board.{Board}
 use Rattle.board.specs.Board.{Boarded}
 use Rattle.event.specs.Course.{last-event, Moment, next, Leads, over, on, from-clock}
-use Rattle.course.proofs.Standing.{Slot-end, past, At}
+use Rattle.course.proofs.Standing.{past, At}
 use Rattle.course.proofs.Event.{at-next}
 
 one-in : {A : Type 0} {x y : A} → In x (y ∷ []) → x ≡ y
 one-in (here q) = q
 one-in (there m) = absurd (in-none m)
 
--- planning from a clock on, where every value that is under way arrives by it
-pub from-at : (p : Lines) (c : List Bool) (t flight : ℕ) (busy comes place passed noted : List ℕ) → Held p (log-at p c t) comes place → Busy p comes busy (suc t) →
-    ((r : ℕ) → length (p .processes) ≤ r → (getD comes r 0 ≤ suc t) ⊎ (getD comes r 0 ≡ flight)) → Slot-end p t flight →
-    ((k : ℕ) → k < length (p .conditions) → getD comes (condition-row p k) 0 ≤ suc t) →
+-- planning from a clock on, where no item is under way
+pub from-at : (p : Lines) (c : List Bool) (t : ℕ) (busy comes place passed noted : List ℕ) → Held p (log-at p c t) comes place → Busy p comes busy (suc t) →
+    ((r : ℕ) → length (p .processes) ≤ r → getD comes r 0 ≤ suc t) →
     ((n : ℕ) → n < length (p .slots) → getD passed n 0 ≡ length (keep (eqb n) (before p c t .passed))) → length passed ≡ 8 →
     ((k : ℕ) → k < length (p .conditions) → 0 < getD comes (condition-row p k) 0 → getD comes (condition-row p k) 0 ≤ t → (n : ℕ) → n < length (p .slots) →
     getD noted (k * 8 + n) 0 ≡ length (keep (eqb n) (before p c (getD comes (condition-row p k) 0 - 1) .passed))) → length noted ≡ 48 →
-    At p c t (from-clock (suc t) flight busy comes place passed noted)
+    At p c t (from-clock (suc t) busy comes place passed noted)
 unfolding from-clock
-from-at p c t flight busy comes place passed noted h b f e k n l w x =
+from-at p c t busy comes place passed noted h b f n l w x =
     record {
       clock = refl;
       held = h;
       ends = b;
-      flying = f;
-      flight-end = e;
-      telling = λ j y. by-now (getD comes (condition-row p j) 0) (k j y);
+      flying = λ r y. inl (f r y);
+      flight-end = past (omega arith);
+      telling = λ j y. by-now (getD comes (condition-row p j) 0) (f (condition-row p j) (omega arith));
       told-end = past (omega arith);
       running = λ q. clash (eq-eqb (suc t) (suc t) refl) q;
       resting = λ q. clash (eq-eqb (suc t) (suc t) refl) q;
@@ -71,11 +70,11 @@ from-at p c t flight busy comes place passed noted h b f e k n l w x =
         at (inr e) = inr (let z = leb-false x t e in omega arith)
 
 -- planning from the beginning
-pub first-at : (p : Lines) (c : List Bool) → At p c 0 (from-clock 1 0 (replicate 8 0) (replicate 198 0) (replicate 198 0) (replicate 8 0) (replicate 48 0))
+pub first-at : (p : Lines) (c : List Bool) → At p c 0 (from-clock 1 (replicate 8 0) (replicate 198 0) (replicate 198 0) (replicate 8 0) (replicate 48 0))
 unfolding before
 first-at p c =
-    from-at p c 0 0 (replicate 8 0) (replicate 198 0) (replicate 198 0) (replicate 8 0) (replicate 48 0) (held-none p) (busy-none p 1) (λ r l. inl (omega (arith, zeros-at 198 r))) (past (omega arith))
-    (λ k l. omega (arith, zeros-at 198 (condition-row p k))) (λ n l. zeros-at 8 n) (length-replicate {A = ℕ} 8 0)
+    from-at p c 0 (replicate 8 0) (replicate 198 0) (replicate 198 0) (replicate 8 0) (replicate 48 0) (held-none p) (busy-none p 1) (λ r l. omega (arith, zeros-at 198 r))
+    (λ n l. zeros-at 8 n) (length-replicate {A = ℕ} 8 0)
     (λ k l z. absurd (omega (arith, zeros-at 198 (condition-row p k)))) (length-replicate {A = ℕ} 48 0)
 
 module _ (p : Lines) (passes : plan-refusal p ≡ nothing) (c : List Bool) (count : length c ≡ length (p .conditions)) (b : Board) (unmet : List ℕ) (o : Boarded p b)

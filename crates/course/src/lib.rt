@@ -56,15 +56,14 @@ pub fn course<'a>(
     rooms: &'a [u32; 8],
     unmet: &'a [u32; 128],
     start: u32,
-    flight: u32,
     ends: [u32; 8],
     comes: &mut [u32; 198],
     place: &mut [u32; 198],
     passed: &mut [u32; 8],
     noted: &mut [u32; 48],
 )
-    requires { ⌜ Fits (board-of processes tell conditions slots (now node) (now ticks) (now several) (now from) (now cue) (now remote) (now bytes) (now decider) (now intofirst) (now into) (now turnfirst) (now turn) (now queuefirst) (now queue) round (now offset) (now lasts) (now rooms)) × Begins (board-of processes tell conditions slots (now node) (now ticks) (now several) (now from) (now cue) (now remote) (now bytes) (now decider) (now intofirst) (now into) (now turnfirst) (now turn) (now queuefirst) (now queue) round (now offset) (now lasts) (now rooms)) (now unmet) start ends (now comes) × (1 ≤ start) × ((k : ℕ) → getD (now passed) k 0 ≤ start) × (length (now passed) ≡ 8) × (flight ≤ start) × (length (now comes) ≡ 198) ⌝ }
-    ensures { λ _. ⌜ Ended (board-of processes tell conditions slots (now (node .entry)) (now (ticks .entry)) (now (several .entry)) (now (from .entry)) (now (cue .entry)) (now (remote .entry)) (now (bytes .entry)) (now (decider .entry)) (now (intofirst .entry)) (now (into .entry)) (now (turnfirst .entry)) (now (turn .entry)) (now (queuefirst .entry)) (now (queue .entry)) round (now (offset .entry)) (now (lasts .entry)) (now (rooms .entry))) (now (unmet .entry)) (from-clock start flight ends (now (comes .entry)) (now (place .entry)) (now (passed .entry)) (now (noted .entry))) (now (comes .exit)) (now (place .exit)) (now (passed .exit)) (now (noted .exit)) ⌝ }
+    requires { ⌜ Fits (board-of processes tell conditions slots (now node) (now ticks) (now several) (now from) (now cue) (now remote) (now bytes) (now decider) (now intofirst) (now into) (now turnfirst) (now turn) (now queuefirst) (now queue) round (now offset) (now lasts) (now rooms)) × Begins (board-of processes tell conditions slots (now node) (now ticks) (now several) (now from) (now cue) (now remote) (now bytes) (now decider) (now intofirst) (now into) (now turnfirst) (now turn) (now queuefirst) (now queue) round (now offset) (now lasts) (now rooms)) (now unmet) start ends (now comes) × (1 ≤ start) × ((k : ℕ) → getD (now passed) k 0 ≤ start) × (length (now passed) ≡ 8) × (length (now comes) ≡ 198) ⌝ }
+    ensures { λ _. ⌜ Ended (board-of processes tell conditions slots (now (node .entry)) (now (ticks .entry)) (now (several .entry)) (now (from .entry)) (now (cue .entry)) (now (remote .entry)) (now (bytes .entry)) (now (decider .entry)) (now (intofirst .entry)) (now (into .entry)) (now (turnfirst .entry)) (now (turn .entry)) (now (queuefirst .entry)) (now (queue .entry)) round (now (offset .entry)) (now (lasts .entry)) (now (rooms .entry))) (now (unmet .entry)) (from-clock start ends (now (comes .entry)) (now (place .entry)) (now (passed .entry)) (now (noted .entry))) (now (comes .exit)) (now (place .exit)) (now (passed .exit)) (now (noted .exit)) ⌝ }
 {
     let mut run = none();
     let mut busy = ends;
@@ -72,7 +71,7 @@ pub fn course<'a>(
     let mut due = each_node(2000000000);
     let mut wait = no_messages();
     let mut waitend = each_node(0);
-    let mut under = flight;
+    let mut under: u32 = 0;
     let mut told = start;
     let mut come = start;
     let mut ending = start;

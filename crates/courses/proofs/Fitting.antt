@@ -207,7 +207,6 @@ module _ (p : Lines) (passes : plan-refusal p ≡ nothing) (b : Board) (o : Boar
         let q : start ≡ suc (r .tick) = s .clock in
         record {
           told-apart = λ e d. unmet-when e (edge p e .when) refl d;
-          ends-most = λ i l. omega (arith, s .ends .most i (in-processes i l), ap (λ (k : ℕ). getD ends k 0) (o .nodes i));
           ends-last = λ i l. last-at i (s .ends .last i (in-processes i l));
           items-past = λ i l. past-at i (s .flying i (omega (arith, o .processes-count)));
           busy-long = s .ends .long;

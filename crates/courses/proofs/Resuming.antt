@@ -30,7 +30,7 @@ use Rattle.laws.proofs.Sharing.{plan-in, row-before, row-after, row-never, ends
 use Rattle.readiness.specs.Holding.{Row, absent, stands, Held}
 use Rattle.starting.specs.Busy.{Busy}
 use Rattle.event.specs.Course.{from-clock}
-use Rattle.course.proofs.Standing.{past, At}
+use Rattle.course.proofs.Standing.{At}
 use Rattle.course.proofs.Planned.{from-at}
 use Rattle.resume.specs.Resume.{cut-at, cut, ends-below, no-value}
 
@@ -267,12 +267,12 @@ module _ (p : Lines) (passes : plan-refusal p ≡ nothing) (c d : List Bool) (co
         at (inl e) = q ∙ e
         at (inr e) = absurd (omega (arith, q, e))
 
-    resumed : At p c t (from-clock (suc t) 0 (ends-below node rows-then (length (p .processes))) rows-then place counts noted)
+    resumed : At p c t (from-clock (suc t) (ends-below node rows-then (length (p .processes))) rows-then place counts noted)
     resumed =
-        from-at p c t 0 (ends-below node rows-then (length (p .processes))) rows-then place counts noted
+        from-at p c t (ends-below node rows-then (length (p .processes))) rows-then place counts noted
         (subst (λ (s : State). Held p (s .log) rows-then place) (same-state t (omega arith)) held-d)
         (resumed-busy p passes d count-d t rows-then place node held-d small nodes)
-        (λ r l. inl (arrived r l)) (past (omega arith)) (λ k l. arrived (condition-row p k) (omega arith))
+        arrived
         (λ n l. counted n l ∙ ap (λ (s : State). length (keep (eqb n) (s .passed))) (same-state t (omega arith))) long
         (λ k l o q n w.
         let e = cut-value k o in
@@ -303,11 +303,11 @@ module _ (p : Lines) (passes : plan-refusal p ≡ nothing) (c d : List Bool) (co
   -- the value arrives
   pub resumes-until : (t : ℕ) → getD comes (condition-row p j) 0 ≡ suc t → (counts : List ℕ) → length counts ≡ 8 →
       ((n : ℕ) → n < length (p .slots) → getD counts n 0 ≡ getD noted (j * 8 + n) 0) →
-      At p c t (from-clock (suc t) 0 (ends-below node (cut comes lasting (suc t)) (length (p .processes))) (cut comes lasting (suc t)) place counts noted) × Same t
+      At p c t (from-clock (suc t) (ends-below node (cut comes lasting (suc t)) (length (p .processes))) (cut comes lasting (suc t)) place counts noted) × Same t
   resumes-until t q counts long counted = at (h .row (condition-row p j))
     where
       at : Row p (planned p d .log) (condition-row p j) (getD comes (condition-row p j) 0) (getD place (condition-row p j) 0) →
-          At p c t (from-clock (suc t) 0 (ends-below node (cut comes lasting (suc t)) (length (p .processes))) (cut comes lasting (suc t)) place counts noted) × Same t
+          At p c t (from-clock (suc t) (ends-below node (cut comes lasting (suc t)) (length (p .processes))) (cut comes lasting (suc t)) place counts noted) × Same t
       at (absent n z) = absurd (omega (arith, q, z))
       at (stands u n z) =
           let x : Placed = record { row = condition-row p j; tick = u; place = getD place (condition-row p j) 0 } in
@@ -326,7 +326,7 @@ module _ (p : Lines) (passes : plan-refusal p ≡ nothing) (c d : List Bool) (co
   -- the value never arrives: both plans are the same to the end
   pub resumes-never : getD comes (condition-row p j) 0 ≡ 0 → (counts : List ℕ) → length counts ≡ 8 →
       ((n : ℕ) → n < length (p .slots) → getD counts n 0 ≡ length (keep (eqb n) (planned p d .passed))) →
-      At p c 1999999999 (from-clock no-value 0 (ends-below node (cut comes lasting no-value) (length (p .processes))) (cut comes lasting no-value) place counts noted) × Same 1999999999
+      At p c 1999999999 (from-clock no-value (ends-below node (cut comes lasting no-value) (length (p .processes))) (cut comes lasting no-value) place counts noted) × Same 1999999999
   resumes-never q counts long counted = at (h .row (condition-row p j))
     where
       ended : before p d 1999999999 ≡ planned p d
@@ -336,7 +336,7 @@ module _ (p : Lines) (passes : plan-refusal p ≡ nothing) (c d : List Bool) (co
           ap (before p d) (sym e) ∙ planning-ends p d passes count-d (1999999999 - bound p)
 
       at : Row p (planned p d .log) (condition-row p j) (getD comes (condition-row p j) 0) (getD place (condition-row p j) 0) →
-          At p c 1999999999 (from-clock no-value 0 (ends-below node (cut comes lasting no-value) (length (p .processes))) (cut comes lasting no-value) place counts noted) × Same 1999999999
+          At p c 1999999999 (from-clock no-value (ends-below node (cut comes lasting no-value) (length (p .processes))) (cut comes lasting no-value) place counts noted) × Same 1999999999
       at (stands u n z) = absurd (omega (arith, q, z))
       at (absent n z) =
           let s : Same 1999999999 = shared-all p passes c d count-c count-d j else-same n 1999999999 in (

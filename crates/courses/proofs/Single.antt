@@ -111,7 +111,7 @@ module _ (p : Lines) (passes : plan-refusal p ≡ nothing) where
     pub course-of : (c : ℕ) → c < 2 ^ length (p .conditions) → (unmet : List ℕ) → unmet ≡ unmet-by (b .kind) (b .condition) (b .edges) c →
         (start : ℕ) (ends rows places counts noted : List ℕ) → Ready p c start ends rows places counts noted →
         (rows-after places-after counts-after noted-after : List ℕ) →
-        Ended b unmet (from-clock start 0 ends rows places counts noted) rows-after places-after counts-after noted-after →
+        Ended b unmet (from-clock start ends rows places counts noted) rows-after places-after counts-after noted-after →
         Course p c rows-after places-after counts-after noted-after
     course-of c l unmet q start ends rows places counts noted r rows-after places-after counts-after noted-after e =
         let h : Holds p (numbered p c) (b .from) (b .cue) unmet (b .remote) (b .several) (b .intofirst) (b .into) =

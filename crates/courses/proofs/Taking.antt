@@ -115,7 +115,7 @@ module _ (p : Lines) (passes : plan-refusal p ≡ nothing) (b : Board) (o : Boar
   -- where planning stands at a clock
   abbrev Stands : ℕ → Type 0
   Stands t =
-      At p (numbered p c) t (from-clock (s .clock) 0 (ends-below (b .node) (cut (block comes (s .from)) (b .span) (s .clock)) (b .processes)) (cut (block comes (s .from)) (b .span) (s .clock)) (block place (s .from)) counts noted)
+      At p (numbered p c) t (from-clock (s .clock) (ends-below (b .node) (cut (block comes (s .from)) (b .span) (s .clock)) (b .processes)) (cut (block comes (s .from)) (b .span) (s .clock)) (block place (s .from)) counts noted)
 
   record Taken : Type 0 where
     tick : ℕ
@@ -147,7 +147,7 @@ module _ (p : Lines) (passes : plan-refusal p ≡ nothing) (b : Board) (o : Boar
             tick = 1999999999;
             clock = k;
             stands-there =
-                subst₂ (λ (u n : ℕ). At p (numbered p c) 1999999999 (from-clock u 0 (ends-below (b .node) (cut (block comes d) (b .span) u) n) (cut (block comes d) (b .span) u) (block place d) counts noted))
+                subst₂ (λ (u n : ℕ). At p (numbered p c) 1999999999 (from-clock u (ends-below (b .node) (cut (block comes d) (b .span) u) n) (cut (block comes d) (b .span) u) (block place d) counts noted))
                 (sym k) (sym (o .processes-count)) (r .0);
             same-until = r .1;
             few-counts = few-then (s .clock) (λ n m. omega (arith, own n m, passes-few p passes n d source-within, k));
@@ -164,7 +164,7 @@ module _ (p : Lines) (passes : plan-refusal p ≡ nothing) (b : Board) (o : Boar
             tick = t;
             clock = k;
             stands-there =
-                subst₂ (λ (u n : ℕ). At p (numbered p c) t (from-clock u 0 (ends-below (b .node) (cut (block comes d) (b .span) u) n) (cut (block comes d) (b .span) u) (block place d) counts noted))
+                subst₂ (λ (u n : ℕ). At p (numbered p c) t (from-clock u (ends-below (b .node) (cut (block comes d) (b .span) u) n) (cut (block comes d) (b .span) u) (block place d) counts noted))
                 (sym k) (sym (o .processes-count)) (r .0);
             same-until = r .1;
             few-counts = few-then (s .clock)
@@ -241,7 +241,7 @@ module _ (p : Lines) (passes : plan-refusal p ≡ nothing) (b : Board) (o : Boar
           subst (λ (x : ℕ). Taken-over p c rows-after (b .span) x) (sym (t .until)) (next-taken p passes b o c l comes place notes e (t .source) (t .sourced) rows-after places-after h)
 
   pub one-of : (unmet : List ℕ) → unmet ≡ unmet-by (b .kind) (b .condition) (b .edges) c → {rows-after places-after counts-after noted-after : List ℕ} →
-      Ended b unmet (from-clock clock 0 ends rows places counts noted) rows-after places-after counts-after noted-after → {latest : ℕ} → latest ≡ last-end-by rows-after (b .processes) → (since passed : List ℕ) → length passed ≡ 8 →
+      Ended b unmet (from-clock clock ends rows places counts noted) rows-after places-after counts-after noted-after → {latest : ℕ} → latest ≡ last-end-by rows-after (b .processes) → (since passed : List ℕ) → length passed ≡ 8 →
       {comes-after place-after since-after notes-after passed-after : List ℕ} →
       Kept c clock (b .slots) rows-after places-after counts-after noted-after comes place since notes passed comes-after place-after since-after notes-after passed-after →
       One p (b .span) c latest comes place since notes passed comes-after place-after since-after notes-after passed-after

@@ -48,7 +48,7 @@ passes-of p n c = length (keep (eqb n) (planned p (numbered p c) .passed))
 -- the arrays hold where the planning of combination c stands at a clock
 pub record Ready (p : Lines) (c start : ℕ) (ends rows places counts noted : List ℕ) : Type 0 where
   pub tick : ℕ
-  pub at-tick : At p (numbered p c) tick (from-clock start 0 ends rows places counts noted)
+  pub at-tick : At p (numbered p c) tick (from-clock start ends rows places counts noted)
 
 -- The combinations below n are planned, and their counts are noted.
 pub record Earlier (p : Lines) (n : ℕ) (comes place notes : List ℕ) : Type 0 where

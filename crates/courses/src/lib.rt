@@ -199,7 +199,6 @@ pub fn all_courses(
             &b.rooms,
             &lacks,
             clock,
-            0,
             ends,
             &mut rows,
             &mut places,

@@ -11,8 +11,8 @@ use lib.ListN.{getD}
 use borrow.Author.Tests.{eqb-true, eqb-false, eq-eqb}
 use Rattle.lists.specs.Lists.{if_then_else_}
 use Rattle.starting.specs.News.{no-end, Soonest}
-use Rattle.event.specs.Course.{come-by}
-use Rattle.event.specs.Ending.{Ending, ends-now, changes-at}
+use Rattle.clocks.specs.Clocks.{come-by, ends-now, changes-at}
+use Rattle.event.specs.Ending.{Ending}
 use Rattle.event.proofs.Ahead.{come-busy, come-most, come-below, come-later, ahead}
 
 module _ (slots u : ℕ) (before : List ℕ) (ends : ℕ) (e : Ending slots u before ends) where

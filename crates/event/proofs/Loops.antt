@@ -13,8 +13,9 @@ use Rattle.lists.specs.Lists.{if_then_else_}
 use Rattle.timetable.specs.Bus.{beginning-at}
 use Rattle.slot_items.specs.Packing.{Load}
 use Rattle.board.specs.declared.Board.{Board}
+use Rattle.clocks.specs.Clocks.{come-by}
 use Rattle.serving.specs.Serving.{Bus, bus, filled, fill-by}
-use Rattle.event.specs.Course.{last-event, Moment, slot-at-by, serve-by, come-by, next-slot, nearer-by, event-by, hears, begins-with, serves, waiting, notes, moves, next, Fits}
+use Rattle.event.specs.Course.{last-event, Moment, slot-at-by, serve-by, next-slot, nearer-by, event-by, hears, begins-with, serves, waiting, notes, moves, next, Fits}
 use Rattle.event.proofs.Ahead.{come-after, event-after}
 
 -- the next beginning of a slot, by cases

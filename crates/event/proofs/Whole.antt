@@ -13,13 +13,14 @@ use Rattle.lists.specs.Lists.{if_then_else_}
 use Rattle.lists.proofs.Tests.{two}
 use Rattle.readiness.specs.Reading.{part}
 use Rattle.model.specs.Listing.{bit}
-use Rattle.starting.specs.News.{new-at, Soonest}
+use Rattle.starting.specs.News.{Soonest}
 use Rattle.slot_items.specs.Packing.{stir-by}
 use Rattle.board.specs.declared.Board.{Board}
+use Rattle.clocks.specs.Clocks.{new-at, served-by, sooner-by, ends-now, changes-at, event-now}
 use Rattle.serving.specs.Serving.{Bus, bus, taken-in, fill-with, left-with, stir-with, fill-by, due-from, attend-by, Waiting, Roomy, Attended-all, Served}
-use Rattle.event.specs.Course.{last-event, Moment, moment, sooner-by, hears, begins-with, waiting, messages, notes, next, Fits}
-use Rattle.event.specs.Kept.{served-by, event-now, Kept, Queued}
-use Rattle.event.specs.Ending.{Ending, ends-now, changes-at}
+use Rattle.event.specs.Course.{last-event, Moment, moment, hears, begins-with, waiting, messages, notes, next, Fits}
+use Rattle.event.specs.Kept.{Kept, Queued}
+use Rattle.event.specs.Ending.{Ending}
 use Rattle.event.proofs.Keeping.{queued-now, node-low, rows-room, wait-rows, rows-arrived, told-arrived, wait-comes, queued-next, event-on, ending-on}
 use Rattle.event.proofs.Queue.{chosen-same, fill-same, short-same, left-same, stir-same, message-small, message-remote, served-roomy, served-own, served-other}
 

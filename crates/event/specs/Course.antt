@@ -5,15 +5,17 @@ use Prim.Native.Nat.{ℕ, zero, suc, _+_, _-_, _*_, _≤_, _<_}
 use mathlib.Core.Path.{_≡_}
 use mathlib.Core.Logic.{_⊎_}
 use mathlib.Core.Bool.{Bool, true, false}
-use mathlib.Core.List.{List, [], _∷_, List·Memᴰ as In}
-use lib.Dec.{eqb, leb, ltb}
+use mathlib.Core.List.{List, [], List·Memᴰ as In}
+use lib.Dec.{eqb, leb}
 use lib.ListN.{getD, replicate}
 use lib.Seq.{sets}
 use Rattle.lists.specs.Lists.{if_then_else_, below, repeated}
-use Rattle.readiness.specs.Reading.{part, edges-into, may-run-by, Within}
+use Rattle.readiness.specs.Reading.{part, edges-into, Within}
 use Rattle.timetable.specs.Bus.{beginning-at}
 use Rattle.starting.specs.Starting.{Ends, starts-by}
-use Rattle.serving.specs.Serving.{no-event, Bus, bus, waiting-in, pending-in, fill-by}
+use Rattle.clocks.specs.Clocks.{first-or, come-by}
+use Rattle.runnable.specs.Hearing.{heard-by}
+use Rattle.serving.specs.Serving.{Bus, bus, waiting-in, pending-in, fill-by}
 use Rattle.board.specs.declared.Board.{Board}
 
 -- the last clock at which an event is looked at: no delay reaches it
@@ -39,11 +41,6 @@ abbrev pub moment : ℕ → ℕ → ℕ → ℕ → List ℕ → List ℕ → Li
 moment u come flight told run busy comes place passed noted =
     record { u = u; come = come; flight = flight; told = told; run = run; busy = busy; comes = comes; place = place; passed = passed; noted = noted }
 
--- What may run is worked out again where a value becomes known.
-unfoldable pub heard-by : ℕ → ℕ → ℕ → List ℕ → List ℕ → List ℕ → List ℕ → List ℕ → List ℕ → List ℕ → List ℕ → List ℕ
-heard-by told u processes from cue unmet comes several intofirst into run =
-    if eqb told u then may-run-by from cue unmet comes u several intofirst into processes else run
-
 -- The counts are noted for the conditions below n whose values become known at the clock; and where any does.
 unfoldable pub notes-below : List ℕ → ℕ → ℕ → List ℕ → ℕ → List ℕ → List ℕ
 notes-below comes u tell passed zero noted = noted
@@ -59,11 +56,6 @@ unfoldable pub begun-by : ℕ → ℕ → List ℕ → List ℕ → List ℕ →
 begun-by come processes remote from cue unmet run several intofirst into u turnfirst turn ticks slots s =
     if eqb come u then starts-by processes remote from cue unmet run several intofirst into u turnfirst turn ticks slots s else s
 
--- the first of some numbers that passes a test, or another
-unfoldable pub first-or : ℕ → (ℕ → Bool) → List ℕ → ℕ
-first-or d f [] = d
-first-or d f (x ∷ xs) = if f x then x else first-or d f xs
-
 -- the slot of a node begins at a tick; the node whose slot does, or the number of slots
 unfoldable pub begins-by : ℕ → List ℕ → ℕ → ℕ → Bool
 begins-by round offset tick n = eqb (beginning-at round (getD offset n 0) tick) tick
@@ -77,15 +69,6 @@ module _ (processes tell conditions : ℕ) (decider node queuefirst queue from c
   serve-by round offset slots u s =
       let n : ℕ = slot-at-by round offset (u - 1) slots in
       if eqb n slots then s else fill-by processes tell conditions decider node queuefirst queue from cue unmet bytes lasts rooms n u s
-
--- x where it lies after the clock and before the least so far, or else that
-unfoldable pub sooner-by : ℕ → ℕ → ℕ → ℕ
-sooner-by least x u = if ltb u x then if ltb x least then x else least else least
-
--- the next clock at which the slot under way ends or a process does, of the nodes below n
-unfoldable pub come-by : ℕ → List ℕ → ℕ → ℕ → ℕ
-come-by flight busy u zero = sooner-by no-event flight u
-come-by flight busy u (suc n) = sooner-by (come-by flight busy u n) (getD busy n 0) u
 
 -- the clock of the first beginning of a slot after the clock u
 unfoldable pub next-slot : ℕ → List ℕ → ℕ → ℕ → ℕ
@@ -163,10 +146,10 @@ module _ (b : Board) (unmet : List ℕ) where
     pub counts : passed ≡ end .passed
     pub notes-end : noted ≡ end .noted
 
--- planning from a clock on: what may run is not known yet
-unfoldable pub from-clock : ℕ → ℕ → List ℕ → List ℕ → List ℕ → List ℕ → List ℕ → Moment
-from-clock u flight busy comes place passed noted =
-    record { u = u; come = u; flight = flight; told = u; run = replicate 64 0; busy = busy; comes = comes; place = place; passed = passed; noted = noted }
+-- planning from a clock on: what may run is not known yet, and no slot is under way
+unfoldable pub from-clock : ℕ → List ℕ → List ℕ → List ℕ → List ℕ → List ℕ → Moment
+from-clock u busy comes place passed noted =
+    record { u = u; come = u; flight = 0; told = u; run = replicate 64 0; busy = busy; comes = comes; place = place; passed = passed; noted = noted }
 
 -- what the arrays index, how large their numbers are, what they say of each other, and how the slots lie
 pub record Fits (b : Board) : Type 0 where

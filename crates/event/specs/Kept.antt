@@ -1,27 +1,17 @@
 -- What is kept by node from event to event, so that an event works out again only what changed, in the words of the arrays: `due` has the clock at which the
 -- node's slot next takes an item, `no-event` where the node has none pending, and `stirred` the last clock at which an item arrives at it.
 -- Assumes nothing.
-use Prim.Native.Nat.{ℕ, zero, suc, min, _+_, _-_, _≤_, _<_}
+use Prim.Native.Nat.{ℕ, suc, _+_, _-_, _≤_, _<_}
 use mathlib.Core.Path.{_≡_}
 use mathlib.Core.Logic.{_⊎_}
 use mathlib.Core.Bool.{true}
 use mathlib.Core.List.{List}
-use lib.Dec.{eqb}
 use lib.ListN.{length, getD}
-use Rattle.lists.specs.Lists.{below}
 use Rattle.starting.specs.Quiet.{Idle}
 use Rattle.board.specs.declared.Board.{Board}
-use Rattle.serving.specs.Serving.{no-event, due-from, Waiting, Roomy}
-use Rattle.event.specs.Course.{Moment, first-or, begins-by, waiting, messages}
-
--- the first node whose slot takes an item at the clock, or the number of slots
-unfoldable pub served-by : List ℕ → ℕ → ℕ → ℕ
-served-by due u slots = first-or slots (λ n. eqb (getD due n 0) u) (below slots)
-
--- the next event: `come`, or when the slot of a node below n takes an item
-unfoldable pub event-now : List ℕ → ℕ → ℕ → ℕ
-event-now due come zero = come
-event-now due come (suc n) = min (event-now due come n) (getD due n 0)
+use Rattle.clocks.specs.Clocks.{no-event}
+use Rattle.serving.specs.Serving.{due-from, Waiting, Roomy}
+use Rattle.event.specs.Course.{Moment, begins-by, waiting, messages}
 
 -- a clock that is past, or at which a slot ends that began before the clock u
 pub data Past (b : Board) (u x : ℕ) : Type 0 where
@@ -64,11 +54,10 @@ pub record Queued (b : Board) (unmet : List ℕ) (m : Moment) (wait waitend : Li
   pub roomy : Roomy wait waitend
   pub waits : (n : ℕ) → n < b .slots → (m .told ≡ m .u → ⊥) → (getD (m .busy) n 0 ≡ m .u → ⊥) → Waiting (b .queuefirst) wait waitend n (messages b unmet (m .comes) (m .u) n)
 
--- What planning may begin from at a clock: an edge that is not met goes by a condition; `busy` has the ends of the nodes' last processes, and of the processes
--- of a node only the last may end after the clock; no item is under way.
+-- What planning may begin from at a clock: an edge that is not met goes by a condition; of the processes of a node only the last may end after the clock, and
+-- `busy` has its end; no item is under way.
 pub record Begins (b : Board) (unmet : List ℕ) (start : ℕ) (busy comes : List ℕ) : Type 0 where
   pub told-apart : (e : ℕ) → (getD unmet e 0 ≡ 0 → ⊥) → (k : ℕ) × (k < b .conditions) × (getD (b .cue) e 0 ≡ b .tell + k)
-  pub ends-most : (i : ℕ) → i < b .processes → getD comes i 0 ≤ getD busy (getD (b .node) i 0) 0
   pub ends-last : (i : ℕ) → i < b .processes → (getD comes i 0 ≤ start) ⊎ (getD comes i 0 ≡ getD busy (getD (b .node) i 0) 0)
   pub items-past : (r : ℕ) → b .processes ≤ r → getD comes r 0 ≤ start
   pub busy-long : length busy ≡ 8

@@ -1,12 +1,16 @@
 // One event of the planning of a combination: a process ends, a slot that carries something ends, or a slot begins whose node has a ready
 // item. specs/Course.antt says what an event does and when the next one is, specs/Kept.antt what is kept from event to event so that nothing is worked out twice.
-use runnable::may_run;
+use clocks::changes;
+use clocks::ends_after;
+use clocks::news;
+use clocks::next_event;
+use clocks::served;
+use clocks::sooner;
+use runnable::heard;
 use serving::attend;
 use serving::serve;
-use starting::news;
 use starting::starts;
 ghost use mathlib.Core.Path.{_≡_};
-ghost use mathlib.Core.Bool.{false};
 ghost use Prim.Native.Nat.{ℕ, _+_, _*_, _<_, _≤_};
 ghost use lib.Dec.{eqb};
 ghost use lib.ListN.{length, getD};
@@ -15,10 +19,11 @@ ghost use Rattle.lists.specs.Lists.{if_then_else_};
 ghost use Rattle.model.specs.Listing.{bit};
 ghost use Rattle.readiness.specs.Reading.{Within};
 ghost use Rattle.starting.specs.Quiet.{Quiet};
-ghost use Rattle.starting.specs.News.{new-at, Soonest};
-ghost use Rattle.event.specs.Course.{moment, notes-below, note-by, heard-by, begun-by, sooner-by, come-by, next, Fits, board-of};
-ghost use Rattle.event.specs.Kept.{served-by, event-now, Kept, Queued};
-ghost use Rattle.event.specs.Ending.{Ending, ends-now, changes-at};
+ghost use Rattle.starting.specs.News.{Soonest};
+ghost use Rattle.clocks.specs.Clocks.{new-at};
+ghost use Rattle.event.specs.Course.{moment, notes-below, note-by, begun-by, next, Fits, board-of};
+ghost use Rattle.event.specs.Kept.{Kept, Queued};
+ghost use Rattle.event.specs.Ending.{Ending};
 
 // Stores the counts of the nodes, from place `at` on.
 fn put_counts(passed: &[u32; 8], at: usize, noted: &mut [u32; 48])
@@ -87,38 +92,6 @@ fn note<'a>(
     note_all(u, tell, conditions, comes, passed, noted);
 }
 
-// Which processes may run: worked out again where a value becomes known at this clock.
-fn heard<'a>(
-    told: u32,
-    u: u32,
-    processes: usize,
-    from: &'a [u32; 128],
-    cue: &'a [u32; 128],
-    unmet: &'a [u32; 128],
-    comes: &'a [u32; 198],
-    several: &'a [u32; 64],
-    intofirst: &'a [u32; 65],
-    into: &'a [u32; 128],
-    run: &mut [u32; 64],
-)
-    requires { ⌜ (processes ≤ 64) × ((k : ℕ) → getD (now intofirst) k 0 ≤ 128) × Within (now from) (now cue) (now into) ⌝ }
-    ensures { λ _. ⌜ now (run .exit) ≡ heard-by told u processes (now (from .entry)) (now (cue .entry)) (now (unmet .entry)) (now (comes .entry)) (now (several .entry)) (now (intofirst .entry)) (now (into .entry)) (now (run .entry)) ⌝ }
-{
-    if told == u {
-        *run = may_run(
-            processes,
-            from,
-            cue,
-            unmet,
-            comes,
-            several,
-            intofirst,
-            into,
-            u,
-        );
-    }
-}
-
 // The mask of the nodes for which something is new at clock u, where a row is over at it. Where none is, it is empty.
 fn new_nodes<'a>(come: u32, u: u32, stirred: &'a [u32; 8], busy: &'a [u32; 8]) -> u32
     ensures { λ r. ⌜ (r < 256) × (come ≡ u → (n : ℕ) → n < 8 → bit r n ≡ new-at (now (stirred .entry)) (now (busy .entry)) u n) ⌝ }
@@ -178,113 +151,6 @@ fn begin<'a>(
         );
     }
     2000000000
-}
-
-// Whether the slot of a node takes an item at clock u.
-fn any_due(due: &[u32; 8], u: u32) -> bool
-    ensures { λ r. ⌜ (r ≡ false → (n : ℕ) → n < 8 → getD (now (due .entry)) n 0 ≡ u → ⊥) ⌝ }
-{
-    let mut found = false;
-    let mut n: usize = 0;
-    while n < 8 {
-        if due[n] == u {
-            found = true;
-        }
-        n += 1;
-    }
-    found
-}
-
-// The first node whose slot takes an item at clock u, or the number of slots.
-fn which_due(due: &[u32; 8], slots: usize, u: u32) -> usize
-    requires { ⌜ slots ≤ 8 ⌝ }
-    ensures { λ r. ⌜ r ≡ served-by (now (due .entry)) u slots ⌝ }
-{
-    let mut n: usize = 0;
-    while n < slots {
-        if due[n] == u {
-            return n;
-        }
-        n += 1;
-    }
-    slots
-}
-
-// The node whose slot takes an item at clock u, or the number of slots.
-fn served(due: &[u32; 8], slots: usize, u: u32) -> usize
-    requires { ⌜ slots ≤ 8 ⌝ }
-    ensures { λ r. ⌜ r ≡ served-by (now (due .entry)) u slots ⌝ }
-{
-    if any_due(due, u) {
-        return which_due(due, slots, u);
-    }
-    slots
-}
-
-// x where it lies after u and before the least so far, or else that.
-fn sooner(least: u32, x: u32, u: u32) -> u32
-    ensures { λ r. ⌜ r ≡ sooner-by least x u ⌝ }
-{
-    if u < x {
-        if x < least {
-            return x;
-        }
-    }
-    least
-}
-
-// The next clock after u at which a process ends, or 2,000,000,000.
-fn next_end(busy: &[u32; 8], slots: usize, u: u32) -> u32
-    requires { ⌜ slots ≤ 8 ⌝ }
-    ensures { λ r. ⌜ r ≡ come-by 0 (now (busy .entry)) u slots ⌝ }
-{
-    let mut least: u32 = 2000000000;
-    let mut n: usize = 0;
-    while n < slots {
-        least = sooner(least, busy[n], u);
-        n += 1;
-    }
-    least
-}
-
-// The next clock after u at which a process ends: worked out again where one ends at u; elsewhere at most one that starts ends sooner. `first` is the first end of
-// those that start.
-fn ends_after(busy: &[u32; 8], slots: usize, ends: u32, first: u32, u: u32) -> u32
-    requires { ⌜ slots ≤ 8 ⌝ }
-    ensures { λ r. ⌜ r ≡ ends-now ends first (now (busy .entry)) u slots ⌝ }
-{
-    if ends == u {
-        return next_end(busy, slots, u);
-    }
-    if first < ends {
-        return first;
-    }
-    ends
-}
-
-// The clock at which the items that a node has pending may next change: u where a broadcast arrives at it, or else the next end of a process.
-fn changes(told: u32, ends: u32, u: u32) -> u32
-    ensures { λ r. ⌜ r ≡ changes-at told ends u ⌝ }
-{
-    if told != u {
-        return ends;
-    }
-    u
-}
-
-// The next event: `come`, or when the slot of a node takes an item, if that is sooner.
-fn next_event(due: &[u32; 8], come: u32) -> u32
-    ensures { λ r. ⌜ r ≡ event-now (now (due .entry)) come 8 ⌝ }
-{
-    let mut least = come;
-    let mut n: usize = 0;
-    while n < 8 {
-        if due[n] < least {
-            least = due[n];
-        }
-        n += 1;
-    }
-    least
 }
 
 // Where planning stands: the clock of the event, the clock at which a row is next over, the end of the last slot used, and of the last one with a broadcast,

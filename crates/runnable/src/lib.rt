@@ -6,6 +6,7 @@ ghost use Prim.Native.Nat.{ℕ, _<_, _≤_};
 ghost use lib.ListN.{getD};
 ghost use Rattle.lists.specs.Lists.{all, any};
 ghost use Rattle.readiness.specs.Reading.{part, carries-by, runs-by, may-run-by, Within};
+ghost use Rattle.runnable.specs.Hearing.{heard-by};
 
 // Every edge of into[a .. b] may still carry.
 fn all_carry<'a>(
@@ -105,4 +106,36 @@ pub fn may_run<'a>(
         i += 1;
     }
     run
+}
+
+// Which processes may run: worked out again where a value becomes known at this clock.
+pub fn heard<'a>(
+    told: u32,
+    u: u32,
+    processes: usize,
+    from: &'a [u32; 128],
+    cue: &'a [u32; 128],
+    unmet: &'a [u32; 128],
+    comes: &'a [u32; 198],
+    several: &'a [u32; 64],
+    intofirst: &'a [u32; 65],
+    into: &'a [u32; 128],
+    run: &mut [u32; 64],
+)
+    requires { ⌜ (processes ≤ 64) × ((k : ℕ) → getD (now intofirst) k 0 ≤ 128) × Within (now from) (now cue) (now into) ⌝ }
+    ensures { λ _. ⌜ now (run .exit) ≡ heard-by told u processes (now (from .entry)) (now (cue .entry)) (now (unmet .entry)) (now (comes .entry)) (now (several .entry)) (now (intofirst .entry)) (now (into .entry)) (now (run .entry)) ⌝ }
+{
+    if told == u {
+        *run = may_run(
+            processes,
+            from,
+            cue,
+            unmet,
+            comes,
+            several,
+            intofirst,
+            into,
+            u,
+        );
+    }
 }

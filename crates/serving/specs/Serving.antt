@@ -10,11 +10,8 @@ use lib.ListN.{length, getD, set}
 use Rattle.lists.specs.Lists.{if_then_else_, keep}
 use Rattle.timetable.specs.Bus.{beginning-at}
 use Rattle.readiness.specs.Reading.{part}
+use Rattle.clocks.specs.Clocks.{no-event}
 use Rattle.slot_items.specs.Packing.{Load, Listed, waits-by, take-all, left-of, stir-taken, stir-all, pending-by, tells-sent, send-by, told-by}
-
--- a clock that no event has: the answer where no event is left
-abbrev pub no-event : ℕ
-no-event = 2000000000
 
 -- what the bus leaves of an event
 pub record Bus : Type 0 where

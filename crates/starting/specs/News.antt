@@ -1,18 +1,13 @@
--- The nodes for which something is new at a clock, their starts, and which of the processes that start ends first.
+-- The starts of the nodes for which something is new at a clock, and which of the processes that start ends first.
 -- Assumes nothing.
 use Prim.Native.Nat.{ℕ, _≤_, _<_}
 use mathlib.Core.Path.{_≡_}
 use mathlib.Core.Logic.{_⊎_}
-use mathlib.Core.Bool.{Bool, _||_}
 use mathlib.Core.List.{List}
-use lib.Dec.{eqb, ltb}
+use lib.Dec.{ltb}
 use lib.ListN.{length, getD}
 use Rattle.lists.specs.Lists.{if_then_else_}
 use Rattle.starting.specs.Starting.{Ends, start-by}
-
--- an item arrives at node n at the clock, or its last process ends
-unfoldable pub new-at : List ℕ → List ℕ → ℕ → ℕ → Bool
-new-at stirred busy u n = eqb (getD stirred n 0) u || eqb (getD busy n 0) u
 
 module _ (processes : ℕ) (remote from cue unmet run several intofirst into : List ℕ) (u : ℕ) (turnfirst turn ticks : List ℕ) (slots : ℕ) where
   -- a number starts, if it is that of a node

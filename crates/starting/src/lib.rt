@@ -1,21 +1,17 @@
 // The starts at one event: each free node starts its ready process of highest urgency, ties to the lower number.
 // specs/Starting.antt says what the arrays hold.
 use mask::lowest_node;
-use mask::with_node;
 use mask::without_lowest_node;
 use readiness::ready;
 ghost use mathlib.Core.Path.{_≡_};
 ghost use mathlib.Core.Logic.{_⊎_};
 ghost use mathlib.Core.List.{List};
 ghost use Prim.Native.Nat.{ℕ, _+_, _<_, _≤_};
-ghost use lib.Dec.{eqb};
 ghost use lib.ListN.{length, getD};
-ghost use Rattle.model.specs.Listing.{bit};
-ghost use Rattle.mask.specs.Masks.{mask-from};
 ghost use Rattle.readiness.specs.Reading.{part, Within};
 ghost use Rattle.starting.specs.Starting.{can-start, first-of, end-after, rows-after, starts-by};
 ghost use Rattle.starting.specs.Quiet.{Quiet};
-ghost use Rattle.starting.specs.News.{start-in, new-at, Soonest};
+ghost use Rattle.starting.specs.News.{start-in, Soonest};
 
 // Process i has not started, and it is ready.
 fn can_start<'a>(
@@ -215,28 +211,6 @@ fn start_node<'a>(
     );
     busy[n] = end;
     sooner_end(first, end, u)
-}
-
-// The mask of the nodes that have the clock u in an array by node.
-fn at_clock(by: &[u32; 8], u: u32) -> u32
-    ensures { λ r. ⌜ r ≡ mask-from (λ n. eqb (getD (now (by .entry)) n 0) u) 0 8 ⌝ }
-{
-    let mut mask: u32 = 0;
-    let mut n: usize = 8;
-    while 0 < n {
-        n -= 1;
-        mask = with_node(mask, by[n] == u);
-    }
-    mask
-}
-
-// The mask of the nodes for which something is new at clock u: an item arrives, or the last process ends.
-pub fn news<'a>(u: u32, stirred: &'a [u32; 8], busy: &'a [u32; 8]) -> u32
-    ensures { λ r. ⌜ (r < 256) × ((n : ℕ) → n < 8 → bit r n ≡ new-at (now (stirred .entry)) (now (busy .entry)) u n) ⌝ }
-{
-    let items = at_clock(stirred, u);
-    let ends = at_clock(busy, u);
-    items | ends
 }
 
 // Each free node starts its first ready process in turn that has not started: `busy` has then the end of each node's last process,

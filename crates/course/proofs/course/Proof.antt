@@ -16,13 +16,13 @@ use Rattle.course.proofs.course.Statement.{statement}
 use Rattle.course.proofs.course.Tie as tie
 
 abbrev Inv-loop : tie.InvT-loop
-Inv-loop processes tell conditions slots node ticks several from cue remote bytes decider intofirst into turnfirst turn queuefirst queue round offset lasts rooms unmet start flight comes₀ place₀ passed₀ noted₀ run₀ busy₀ stirred₀ due₀ wait₀ waitend₀ under₀ told₀ come₀ ending₀ u₀ comes place passed noted run busy stirred due wait waitend under told come ending u =
+Inv-loop processes tell conditions slots node ticks several from cue remote bytes decider intofirst into turnfirst turn queuefirst queue round offset lasts rooms unmet start comes₀ place₀ passed₀ noted₀ run₀ busy₀ stirred₀ due₀ wait₀ waitend₀ under₀ told₀ come₀ ending₀ u₀ comes place passed noted run busy stirred due wait waitend under told come ending u =
     let b : Board = board-of processes tell conditions slots node ticks several from cue remote bytes decider intofirst into turnfirst turn queuefirst queue round offset lasts rooms in
     let m : Moment = moment u come under told run busy comes place passed noted in
-    Going b unmet (from-clock start flight busy₀ comes₀ place₀ passed₀ noted₀) m × Kept b unmet m stirred due × Ending slots u busy ending × Queued b unmet m wait waitend
+    Going b unmet (from-clock start busy₀ comes₀ place₀ passed₀ noted₀) m × Kept b unmet m stirred due × Ending slots u busy ending × Queued b unmet m wait waitend
 
 abbrev μ-loop : tie.MeasureT-loop
-μ-loop processes tell conditions slots node ticks several from cue remote bytes decider intofirst into turnfirst turn queuefirst queue round offset lasts rooms unmet start flight comes₀ place₀ passed₀ noted₀ run₀ busy₀ stirred₀ due₀ wait₀ waitend₀ under₀ told₀ come₀ ending₀ u₀ comes place passed noted run busy stirred due wait waitend under told come ending u =
+μ-loop processes tell conditions slots node ticks several from cue remote bytes decider intofirst into turnfirst turn queuefirst queue round offset lasts rooms unmet start comes₀ place₀ passed₀ noted₀ run₀ busy₀ stirred₀ due₀ wait₀ waitend₀ under₀ told₀ come₀ ending₀ u₀ comes place passed noted run busy stirred due wait waitend under told come ending u =
     2000000001 - u
 
 -- the board, the loop's test and the moment there
@@ -64,10 +64,10 @@ loop-holds c =
     let n = e .before .before in
     let s = n .before in
     let a = s .args in (
-      going-start (board s) (a .unmet .now) (a .start) (a .flight) (a .ends) (a .comes .now) (a .place .now) (a .passed .now) (a .noted .now) (n .none .ensures) (s .pre .2) (s .pre .3) (s .pre .4),
-      kept-start (board s) (s .pre .0) (a .unmet .now) (a .start) (a .flight) (n .none .result) (a .ends) (a .comes .now) (a .place .now) (a .passed .now) (a .noted .now) _ _ (s .pre .2) (s .pre .5) (s .pre .6) (s .pre .1) (e .before .each-node .ensures) (e .each-node2 .ensures),
+      going-start (board s) (a .unmet .now) (a .start) (a .ends) (a .comes .now) (a .place .now) (a .passed .now) (a .noted .now) (n .none .ensures) (s .pre .2) (s .pre .3) (s .pre .4),
+      kept-start (board s) (s .pre .0) (a .unmet .now) (a .start) (n .none .result) (a .ends) (a .comes .now) (a .place .now) (a .passed .now) (a .noted .now) _ _ (s .pre .2) (s .pre .5) (s .pre .1) (e .before .each-node .ensures) (e .each-node2 .ensures),
       record { end-now = λ n l q. refl; end-ahead = λ d. absurd (d refl) },
-      queued-start (board s) (s .pre .0) (a .unmet .now) (a .start) (a .flight) (n .none .result) (a .ends) (a .comes .now) (a .place .now) (a .passed .now) (a .noted .now) _ _ (c .before .no-messages .ensures) (c .each-node3 .ensures),
+      queued-start (board s) (s .pre .0) (a .unmet .now) (a .start) (n .none .result) (a .ends) (a .comes .now) (a .place .now) (a .passed .now) (a .noted .now) _ _ (c .before .no-messages .ensures) (c .each-node3 .ensures),
     )
 
 event-requires : tie.Need-event-requires Inv-loop μ-loop
@@ -89,7 +89,7 @@ loop-again c =
     let l = i .before in
     let s = entry l in
     let a = s .args in (
-      subst (Going (board s) (a .unmet .now) (from-clock (a .start) (a .flight) (a .ends) (a .comes .now) (a .place .now) (a .passed .now) (a .noted .now))) (sym (c .event .ensures .0))
+      subst (Going (board s) (a .unmet .now) (from-clock (a .start) (a .ends) (a .comes .now) (a .place .now) (a .passed .now) (a .noted .now))) (sym (c .event .ensures .0))
           (going-on (board s) (a .unmet .now) (s .pre .0) (l .loop .inv .0) (omega (arith, i .loop-test .taken))),
       c .event .ensures .1 .0,
       c .event .ensures .1 .1 .0,

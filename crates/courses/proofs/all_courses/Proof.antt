@@ -107,7 +107,6 @@ course-requires c κs =
       ready-start _ _ _ _ _ _ _ _ w,
       resumed-few (d .plan) (d .passes) (board l) (d .boarded) (l .loop .c) (among i (d .plan) (d .boarded)) (l .loop .comes) (l .loop .place) (l .loop .notes) e _ _ _ _ _ _ (r .resume .ensures),
       ready-long _ _ _ _ _ _ _ _ w,
-      omega arith,
       w .at-tick .held .comes-long,
     )
 

@@ -1,4 +1,4 @@
--- `event::which_due` meets its contract: the nodes from n on give the whole answer.
+-- `clocks::which_due` meets its contract: the nodes from n on give the whole answer.
 -- Assumes nothing.
 use mathlib.Core.Path.{_≡_, sym, ap, _∙_}
 use Prim.Native.Nat.{_-_}
@@ -8,10 +8,9 @@ use borrow.Author.Tests.{eq-eqb, ne-eqb}
 use borrow.Author.Needs.{needs}
 use Rattle.lists.specs.Lists.{upfrom, below}
 use Rattle.lists.proofs.Loops.{upfrom-start, upfrom-next, upfrom-end}
-use Rattle.event.specs.Course.{first-or}
-use Rattle.event.specs.Kept.{served-by}
-use Rattle.event.proofs.which_due.Statement.{statement}
-use Rattle.event.proofs.which_due.Tie as tie
+use Rattle.clocks.specs.Clocks.{first-or, served-by}
+use Rattle.clocks.proofs.which_due.Statement.{statement}
+use Rattle.clocks.proofs.which_due.Tie as tie
 
 abbrev Inv-loop : tie.InvT-loop
 Inv-loop due slots u n₀ n =

@@ -1,4 +1,4 @@
--- `event::next_end` meets its contract: before node n, the least is that of the nodes below n.
+-- `clocks::next_end` meets its contract: before node n, the least is that of the nodes below n.
 -- Assumes nothing.
 use mathlib.Core.Path.{_≡_, sym, ap, _∙_}
 use Prim.Native.Nat.{ℕ, _-_, _≤_}
@@ -7,9 +7,9 @@ use native.Mathlib.Omega.{arith}
 use lib.ListN.{getD}
 use borrow.Author.Tests.{le-ltb}
 use borrow.Author.Needs.{needs}
-use Rattle.event.specs.Course.{sooner-by, come-by}
-use Rattle.event.proofs.next_end.Statement.{statement}
-use Rattle.event.proofs.next_end.Tie as tie
+use Rattle.clocks.specs.Clocks.{sooner-by, come-by}
+use Rattle.clocks.proofs.next_end.Statement.{statement}
+use Rattle.clocks.proofs.next_end.Tie as tie
 
 abbrev Inv-loop : tie.InvT-loop
 Inv-loop busy slots u least₀ n₀ least n = (n ≤ slots) × (least ≡ come-by 0 busy u n)

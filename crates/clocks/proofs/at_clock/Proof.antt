@@ -1,4 +1,4 @@
--- `starting::at_clock` meets its contract: before each turn the mask has the bits of the nodes from n on.
+-- `clocks::at_clock` meets its contract: before each turn the mask has the bits of the nodes from n on.
 -- Assumes nothing.
 use mathlib.Core.Path.{_≡_, sym, ap, _∙_}
 use mathlib.Core.Bool.{Bool}
@@ -9,8 +9,8 @@ use lib.ListN.{getD}
 use borrow.Author.Needs.{needs}
 use Rattle.mask.specs.Masks.{under, mask-from}
 use Rattle.mask.proofs.Built.{built-start, built-step, built-small}
-use Rattle.starting.proofs.at_clock.Statement.{statement}
-use Rattle.starting.proofs.at_clock.Tie as tie
+use Rattle.clocks.proofs.at_clock.Statement.{statement}
+use Rattle.clocks.proofs.at_clock.Tie as tie
 
 abbrev Inv-loop : tie.InvT-loop
 Inv-loop by u mask₀ n₀ mask n = (n ≤ 8) × (mask ≡ mask-from (λ k. eqb (getD by k 0) u) n (8 - n))

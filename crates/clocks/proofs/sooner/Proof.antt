@@ -1,9 +1,9 @@
--- `event::sooner` meets its contract: its tests are those of the definition.
+-- `clocks::sooner` meets its contract: its tests are those of the definition.
 -- Assumes nothing.
 use borrow.Author.Tests.{lt-ltb, le-ltb}
-use Rattle.event.specs.Course.{sooner-by}
-use Rattle.event.proofs.sooner.Statement.{statement}
-use Rattle.event.proofs.sooner.Tie as tie
+use Rattle.clocks.specs.Clocks.{sooner-by}
+use Rattle.clocks.proofs.sooner.Statement.{statement}
+use Rattle.clocks.proofs.sooner.Tie as tie
 
 returns : tie.Need-returns
 unfolding sooner-by

@@ -1,4 +1,4 @@
--- `event::next_event` meets its contract: before node n, the least is that of the next row over and the slots of the nodes below n.
+-- `clocks::next_event` meets its contract: before node n, the least is that of the next row over and the slots of the nodes below n.
 -- Assumes nothing.
 use mathlib.Core.Path.{_≡_, refl, sym, ap, _∙_}
 use mathlib.Core.Logic.{⊎-elim}
@@ -7,9 +7,9 @@ use native.Mathlib.Numerals.{add-one}
 use native.Mathlib.Omega.{arith}
 use lib.ListN.{getD}
 use borrow.Author.Needs.{needs}
-use Rattle.event.specs.Kept.{event-now}
-use Rattle.event.proofs.next_event.Statement.{statement}
-use Rattle.event.proofs.next_event.Tie as tie
+use Rattle.clocks.specs.Clocks.{event-now}
+use Rattle.clocks.proofs.next_event.Statement.{statement}
+use Rattle.clocks.proofs.next_event.Tie as tie
 
 abbrev Inv-loop : tie.InvT-loop
 Inv-loop due come least₀ n₀ least n = (n ≤ 8) × (least ≡ event-now due come n)

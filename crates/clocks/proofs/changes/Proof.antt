@@ -1,9 +1,9 @@
--- `event::changes` meets its contract: its test is that of the definition.
+-- `clocks::changes` meets its contract: its test is that of the definition.
 -- Assumes nothing.
 use borrow.Author.Tests.{eq-eqb, ne-eqb}
-use Rattle.event.specs.Ending.{changes-at}
-use Rattle.event.proofs.changes.Statement.{statement}
-use Rattle.event.proofs.changes.Tie as tie
+use Rattle.clocks.specs.Clocks.{changes-at}
+use Rattle.clocks.proofs.changes.Statement.{statement}
+use Rattle.clocks.proofs.changes.Tie as tie
 
 returns : tie.Need-returns
 unfolding changes-at

@@ -1,4 +1,4 @@
--- `starting::news` meets its contract: the bits of either of two masks are those of the nodes that pass one of two tests.
+-- `clocks::news` meets its contract: the bits of either of two masks are those of the nodes that pass one of two tests.
 -- Assumes nothing.
 use mathlib.Core.Path.{_≡_, sym, ap, _∙_, subst}
 use mathlib.Core.Bool.{Bool, _||_}
@@ -12,9 +12,9 @@ use borrow.Author.Needs.{needs}
 use Rattle.model.specs.Listing.{bit}
 use Rattle.mask.specs.Masks.{mask-from}
 use Rattle.mask.proofs.Built.{built-bit, built-small, built-either}
-use Rattle.starting.specs.News.{new-at}
-use Rattle.starting.proofs.news.Statement.{statement}
-use Rattle.starting.proofs.news.Tie as tie
+use Rattle.clocks.specs.Clocks.{new-at}
+use Rattle.clocks.proofs.news.Statement.{statement}
+use Rattle.clocks.proofs.news.Tie as tie
 
 at-clock-requires : tie.Need-at-clock-requires
 at-clock-requires c κs = search needs

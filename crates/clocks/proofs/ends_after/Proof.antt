@@ -1,11 +1,11 @@
--- `event::ends_after` meets its contract: its tests are those of the definition.
+-- `clocks::ends_after` meets its contract: its tests are those of the definition.
 -- Assumes nothing.
 use native.Mathlib.Omega.{arith}
 use borrow.Author.Tests.{eq-eqb, ne-eqb}
 use borrow.Author.Needs.{needs}
-use Rattle.event.specs.Ending.{ends-now}
-use Rattle.event.proofs.ends_after.Statement.{statement}
-use Rattle.event.proofs.ends_after.Tie as tie
+use Rattle.clocks.specs.Clocks.{ends-now}
+use Rattle.clocks.proofs.ends_after.Statement.{statement}
+use Rattle.clocks.proofs.ends_after.Tie as tie
 
 next-end-requires : tie.Need-next-end-requires
 next-end-requires c κs = search needs

@@ -1,12 +1,12 @@
--- `event::heard` meets its contract: what may run is worked out where the test says so, and stays as it was elsewhere.
+-- `runnable::heard` meets its contract: what may run is worked out where the test says so, and stays as it was elsewhere.
 -- Assumes nothing.
 use mathlib.Core.Path.{_∙_, sym}
 use native.Mathlib.Omega.{arith}
 use borrow.Author.Tests.{eq-eqb, ne-eqb}
 use borrow.Author.Needs.{needs}
-use Rattle.event.specs.Course.{heard-by}
-use Rattle.event.proofs.heard.Statement.{statement}
-use Rattle.event.proofs.heard.Tie as tie
+use Rattle.runnable.specs.Hearing.{heard-by}
+use Rattle.runnable.proofs.heard.Statement.{statement}
+use Rattle.runnable.proofs.heard.Tie as tie
 
 may-run-requires : tie.Need-may-run-requires
 may-run-requires c κs = search needs
