@@ -39,7 +39,8 @@ use Rattle.slot_items.specs.Items.{Items}
 use Rattle.slot_items.proofs.Links.{pending-link, send-held, send-short, send-either, send-untold, send-processes}
 use Rattle.board.specs.declared.Board.{Board}
 use Rattle.board.specs.Board.{Boarded}
-use Rattle.serving.specs.Serving.{Bus, bus, filled, fill-by, pending-in}
+use Rattle.attending.specs.Attending.{pending-in}
+use Rattle.serving.specs.Serving.{Bus, bus, filled, fill-by}
 use Rattle.event.specs.Course.{last-event, Moment, heard-by, begun-by, begins-by, slot-at-by, serve-by, come-by, next-slot, event-by, hears, begins-with, serves, waiting, moves, next, notes-below, note-by, notes}
 use Rattle.event.proofs.Ahead.{come-after, come-flight, come-busy, event-come, event-slot, event-after, First, found, missing, first-below}
 use Rattle.course.proofs.Noting.{notes-long, notes-at}

@@ -12,7 +12,7 @@ use borrow.Author.Tests.{ltb-true, ltb-false, leb-true, leb-false}
 use Rattle.lists.specs.Lists.{below}
 use Rattle.lists.proofs.Tests.{clash, below-suc}
 use Rattle.lists.proofs.Members.{in-below, below-in}
-use Rattle.serving.specs.Serving.{no-event}
+use Rattle.attending.specs.Attending.{no-event}
 use Rattle.event.specs.Course.{first-or, sooner-by, come-by, next-slot, nearer-by, event-by}
 
 -- the earlier of two, by cases

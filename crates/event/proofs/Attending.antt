@@ -15,7 +15,8 @@ use Rattle.lists.specs.Lists.{if_then_else_}
 use Rattle.lists.proofs.Tests.{two, clash, below-suc}
 use Rattle.starting.proofs.Ends.{set-there}
 use Rattle.board.specs.declared.Board.{Board}
-use Rattle.serving.specs.Serving.{no-event, Bus, bus, fill-by, due-from, attend-node, attend-below}
+use Rattle.attending.specs.Attending.{no-event, due-from, attend-node, attend-below}
+use Rattle.serving.specs.Serving.{Bus, bus, fill-by}
 use Rattle.event.specs.Course.{Moment, begins-by, slot-at-by, serve-by, next-slot, nearer-by, event-by, serves, waiting, Fits}
 use Rattle.event.specs.Kept.{event-now}
 use Rattle.event.proofs.Ahead.{First, found, missing, first-below}

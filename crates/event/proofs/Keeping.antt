@@ -24,7 +24,8 @@ use Rattle.starting.proofs.Ends.{set-there}
 use Rattle.slot_items.proofs.Left.{placed-row}
 use Rattle.board.specs.declared.Board.{Board}
 use Rattle.slot_items.specs.Packing.{stir-by}
-use Rattle.serving.specs.Serving.{no-event, Bus, bus, fill-by, due-from, attend-below, attend-by, Waiting, Roomy, Attended-all}
+use Rattle.attending.specs.Attending.{no-event, due-from, attend-below, attend-by, Waiting, Roomy, Attended-all}
+use Rattle.serving.specs.Serving.{Bus, bus, fill-by}
 use Rattle.event.specs.Course.{last-event, Moment, moment, begins-by, heard-by, begun-by, come-by, sooner-by, next-slot, event-by, hears, begins-with, serves, waiting, messages, notes, next, Fits}
 use Rattle.event.specs.Kept.{served-by, event-now, Past, past, under-way, Kept, Queued, Begins}
 use Rattle.event.specs.Ending.{Ending, ends-now, changes-at}

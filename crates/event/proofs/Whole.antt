@@ -16,7 +16,8 @@ use Rattle.model.specs.Listing.{bit}
 use Rattle.starting.specs.News.{new-at, Soonest}
 use Rattle.slot_items.specs.Packing.{stir-by}
 use Rattle.board.specs.declared.Board.{Board}
-use Rattle.serving.specs.Serving.{Bus, bus, taken-in, fill-with, left-with, stir-with, fill-by, due-from, attend-by, Waiting, Roomy, Attended-all, Served}
+use Rattle.attending.specs.Attending.{due-from, attend-by, Waiting, Roomy, Attended-all}
+use Rattle.serving.specs.Serving.{Bus, bus, taken-in, fill-with, left-with, stir-with, fill-by, Served}
 use Rattle.event.specs.Course.{last-event, Moment, moment, sooner-by, hears, begins-with, waiting, messages, notes, next, Fits}
 use Rattle.event.specs.Kept.{served-by, event-now, Kept, Queued}
 use Rattle.event.specs.Ending.{Ending, ends-now, changes-at}

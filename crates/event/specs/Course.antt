@@ -13,7 +13,8 @@ use Rattle.lists.specs.Lists.{if_then_else_, below, repeated}
 use Rattle.readiness.specs.Reading.{part, edges-into, may-run-by, Within}
 use Rattle.timetable.specs.Bus.{beginning-at}
 use Rattle.starting.specs.Starting.{Ends, starts-by}
-use Rattle.serving.specs.Serving.{no-event, Bus, bus, waiting-in, pending-in, fill-by}
+use Rattle.attending.specs.Attending.{no-event, waiting-in, pending-in}
+use Rattle.serving.specs.Serving.{Bus, bus, fill-by}
 use Rattle.board.specs.declared.Board.{Board}
 
 -- the last clock at which an event is looked at: no delay reaches it

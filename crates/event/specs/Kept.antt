@@ -11,7 +11,7 @@ use lib.ListN.{length, getD}
 use Rattle.lists.specs.Lists.{below}
 use Rattle.starting.specs.Quiet.{Idle}
 use Rattle.board.specs.declared.Board.{Board}
-use Rattle.serving.specs.Serving.{no-event, due-from, Waiting, Roomy}
+use Rattle.attending.specs.Attending.{no-event, due-from, Waiting, Roomy}
 use Rattle.event.specs.Course.{Moment, first-or, begins-by, waiting, messages}
 
 -- the first node whose slot takes an item at the clock, or the number of slots

@@ -1,7 +1,7 @@
 // One event of the planning of a combination: a process ends, a slot that carries something ends, or a slot begins whose node has a ready
 // item. specs/Course.antt says what an event does and when the next one is, specs/Kept.antt what is kept from event to event so that nothing is worked out twice.
+use attending::attend;
 use runnable::may_run;
-use serving::attend;
 use serving::serve;
 use starting::news;
 use starting::starts;
