@@ -1,4 +1,4 @@
--- What the proof of `fill` rests on: a choice whose test is known, and what a slot leaves part by part.
+-- What the proof of `fill` rests on: a choice whose test is known, what is made by an equal test, and what a slot leaves part by part.
 -- Assumes nothing.
 use Prim.Native.Nat.{ℕ, _+_}
 use mathlib.Core.Path.{_≡_, sym, ap, _∙_}
@@ -16,6 +16,10 @@ when x y e = sym (ap (λ (q : Bool). if q then x else y) e)
 
 pub unless : {A : Type 0} {b : Bool} (x y : A) → b ≡ false → y ≡ (if b then x else y)
 unless x y e = sym (ap (λ (q : Bool). if q then x else y) e)
+
+-- what is made by a test is made by an equal one
+pub chosen : {A : Type 0} {x : A} (f : Bool → A) (s t : Bool) → x ≡ f s → s ≡ t → x ≡ f t
+chosen f s t p q = p ∙ ap f q
 
 -- what a slot leaves, part by part
 pub filled-parts : (n end : ℕ) (s : Bus) {l : Load} {t : Bool} (used : ℕ) (short told : Bool) (comes place : List ℕ) {flight heard : ℕ} {passed : List ℕ} →
