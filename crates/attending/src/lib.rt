@@ -1,4 +1,5 @@
-// When the slot of each node next takes an item, and which messages wait there, looked up again where something changes. specs/Attending.antt says the same of the arrays.
+// When the slot of each node next takes an item, and which messages wait there, looked up again where something changes. specs/Attending.antt says the same of
+// the arrays.
 use mask::lowest_node;
 use mask::without_lowest_node;
 use telling::has_tell;
