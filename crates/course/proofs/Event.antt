@@ -42,7 +42,8 @@ use Rattle.board.specs.Board.{Boarded}
 use Rattle.clocks.specs.Clocks.{come-by}
 use Rattle.clocks.proofs.Firsts.{First, found, missing, first-below}
 use Rattle.runnable.specs.Hearing.{heard-by}
-use Rattle.serving.specs.Serving.{Bus, bus, filled, fill-by, pending-in}
+use Rattle.attending.specs.Attending.{pending-in}
+use Rattle.serving.specs.Serving.{Bus, bus, filled, fill-by}
 use Rattle.event.specs.Course.{last-event, Moment, begun-by, begins-by, slot-at-by, serve-by, next-slot, event-by, hears, begins-with, serves, waiting, moves, next, notes-below, note-by, notes}
 use Rattle.event.proofs.Ahead.{come-after, come-flight, come-busy, event-come, event-slot, event-after}
 use Rattle.course.proofs.Noting.{notes-long, notes-at}

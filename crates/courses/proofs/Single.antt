@@ -27,8 +27,9 @@ use Rattle.board.specs.Board.{Boarded}
 use Rattle.event.specs.Course.{Moment, Ended, from-clock}
 use Rattle.course.proofs.Planned.{first-at, Plans, leads-planned}
 use Rattle.entries.specs.Logs.{numbered}
-use Rattle.courses.specs.Courses.{log-of, passes-by, passes-of, Ready, Kept, Stored}
-use Rattle.courses.proofs.Adding.{added-at, added-long}
+use Rattle.stored_plans.specs.Stored.{Kept}
+use Rattle.stored_plans.proofs.Adding.{added-at, added-long}
+use Rattle.courses.specs.Courses.{log-of, passes-by, passes-of, Ready, Stored}
 use Rattle.resume.proofs.Sources.{width}
 
 -- where planning of a combination stands at a clock, the clock is 1 or more and there are eight counts

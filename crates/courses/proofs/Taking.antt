@@ -31,9 +31,10 @@ use Rattle.board.specs.Board.{Boarded}
 use Rattle.event.specs.Course.{Ended, from-clock}
 use Rattle.course.proofs.Standing.{At}
 use Rattle.entries.specs.Logs.{block, numbered, plan-of}
+use Rattle.stored_plans.specs.Stored.{Kept}
 use Rattle.resume.specs.declared.Source.{Source}
 use Rattle.resume.specs.Resume.{no-value, arrival, cut, ends-below, Sourced, counts-from, notes-from, counts-at, Resumed, begins, goes-on}
-use Rattle.courses.specs.Courses.{log-of, Ready, Earlier, Kept, Taken-over, One}
+use Rattle.courses.specs.Courses.{log-of, Ready, Earlier, Taken-over, One}
 use Rattle.entries.proofs.Links.{block-at}
 use Rattle.resume.proofs.Sources.{arrival-never, arrival-at, width, from-less, from-within, elsewhere}
 use Rattle.courses.proofs.Resuming.{by-bound, resumes-until, resumes-never}

@@ -1,6 +1,6 @@
 -- What the arrays and the totals hold once the combinations of a plan are planned one after another: combination c's row r stands at place c * 198 + r.
 -- Assumes nothing.
-use Prim.Native.Nat.{ℕ, zero, suc, _+_, _-_, _*_, _^_, _≤_, _<_}
+use Prim.Native.Nat.{ℕ, _+_, _-_, _*_, _^_, _≤_, _<_}
 use mathlib.Core.Path.{_≡_}
 use mathlib.Core.List.{List, map}
 use lib.Dec.{eqb}
@@ -27,11 +27,6 @@ pub record Laid-out (b : Board) : Type 0 where
   pub passes : plan-refusal plan ≡ nothing
   pub boarded : Boarded plan b
 
--- counts added to totals, for the first n nodes
-unfoldable pub added : List ℕ → List ℕ → ℕ → List ℕ
-added counts totals zero = totals
-added counts totals (suc n) = set (added counts totals n) n (getD (added counts totals n) n 0 + getD counts n 0)
-
 -- the plan of combination c: its log, its delay, and in how many slots node n passes a ready item over, before tick t and in all
 abbrev pub log-of : Lines → ℕ → Log
 log-of p c = planned p (numbered p c) .log
@@ -56,15 +51,6 @@ pub record Earlier (p : Lines) (n : ℕ) (comes place notes : List ℕ) : Type 0
   pub noting : (c : ℕ) → c < n → (k : ℕ) → k < length (p .conditions) → 0 < getD (block comes c) (condition-row p k) 0 → (m : ℕ) → m < length (p .slots) →
       getD notes (c * 56 + (k * 8 + m)) 0 ≡ passes-by p m c (getD (block comes c) (condition-row p k) 0 - 1)
   pub counts : (c : ℕ) → c < n → (m : ℕ) → m < length (p .slots) → getD notes (c * 56 + 48 + m) 0 ≡ passes-of p m c
-
--- Combination c's rows and what was noted stand in its parts of the arrays, as does the clock up to which it is taken over, and its counts are added to
--- those of the first nodes.
-pub record Kept (c clock slots : ℕ) (rows places counts noted comes place since notes passed comes-after place-after since-after notes-after passed-after : List ℕ) : Type 0 where
-  pub rows-stored : comes-after ≡ sets comes (c * 198) rows
-  pub places-stored : place-after ≡ sets place (c * 198) places
-  pub since-stored : since-after ≡ set since c clock
-  pub notes-stored : notes-after ≡ sets (sets notes (c * 56) noted) (c * 56 + 48) counts
-  pub counts-added : passed-after ≡ added counts passed slots
 
 -- Combination c is planned: its rows and what was noted are stored, its counts are added. `latest` is the tick at which its last process ends, or 0.
 pub record Stored (p : Lines) (c latest : ℕ) (comes place notes passed comes-after place-after notes-after passed-after : List ℕ) : Type 0 where

@@ -17,7 +17,8 @@ use Rattle.starting.proofs.Ends.{set-there}
 use Rattle.board.specs.declared.Board.{Board}
 use Rattle.clocks.specs.Clocks.{no-event, event-now}
 use Rattle.clocks.proofs.Firsts.{First, found, missing, first-below}
-use Rattle.serving.specs.Serving.{Bus, bus, fill-by, due-from, attend-node, attend-below}
+use Rattle.attending.specs.Attending.{due-from, attend-node, attend-below}
+use Rattle.serving.specs.Serving.{Bus, bus, fill-by}
 use Rattle.event.specs.Course.{Moment, begins-by, slot-at-by, serve-by, next-slot, nearer-by, event-by, serves, waiting, Fits}
 use Rattle.event.proofs.Loops.{nearer-stays, nearer-moves, nearer-none}
 use Rattle.event.proofs.Filling.{fill-nothing}

@@ -20,7 +20,8 @@ use Rattle.readiness.specs.Reading.{part}
 use Rattle.slot_items.specs.Packing.{Load, load, tells-by, waits-by, pending-by, laid, passed, tried, tell-all, all-told, try-send, send-all, tells-sent, told-by, send-by}
 use Rattle.slot_items.proofs.Rows.{set-either}
 use Rattle.slot_items.proofs.Left.{waits-free, tells-free, send-long}
-use Rattle.serving.specs.Serving.{Bus, filled, pending-in, fill-by}
+use Rattle.attending.specs.Attending.{pending-in}
+use Rattle.serving.specs.Serving.{Bus, filled, fill-by}
 
 -- the broadcasts of some conditions
 module _ (tell end : ℕ) where

@@ -27,7 +27,8 @@ use Rattle.slot_items.specs.Packing.{stir-by}
 use Rattle.clocks.specs.Clocks.{no-event, new-at, served-by, sooner-by, come-by, ends-now, changes-at, event-now}
 use Rattle.clocks.proofs.Firsts.{First, found, missing, first-below}
 use Rattle.runnable.specs.Hearing.{heard-by}
-use Rattle.serving.specs.Serving.{Bus, bus, fill-by, due-from, attend-below, attend-by, Waiting, Roomy, Attended-all}
+use Rattle.attending.specs.Attending.{due-from, attend-below, attend-by, Waiting, Roomy, Attended-all}
+use Rattle.serving.specs.Serving.{Bus, bus, fill-by}
 use Rattle.event.specs.Course.{last-event, Moment, moment, begins-by, begun-by, next-slot, event-by, hears, begins-with, serves, waiting, messages, notes, next, Fits}
 use Rattle.event.specs.Kept.{Past, past, under-way, Kept, Queued, Begins}
 use Rattle.event.specs.Ending.{Ending}

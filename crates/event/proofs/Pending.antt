@@ -15,7 +15,7 @@ use Rattle.lists.proofs.Keep.{keep-same}
 use Rattle.lists.proofs.Members.{any-same, below-in}
 use Rattle.readiness.specs.Reading.{within, came-by, placed-by, part, message-by}
 use Rattle.slot_items.specs.Packing.{tells-by, waits-by, pending-by}
-use Rattle.serving.specs.Serving.{pending-in}
+use Rattle.attending.specs.Attending.{pending-in}
 
 -- a row that is over by the earlier clock, or not by the later one; a row that was not placed and ends after the clock
 module _ (x : ℕ) where

@@ -16,8 +16,9 @@ use Rattle.readiness.specs.Reading.{part}
 use Rattle.slot_items.specs.Packing.{Load, waits-by, stir-all, stir-each, stir-by, send-by}
 use Rattle.slot_items.proofs.Left.{taken-by, waiting-by, stirs-by, left-pending}
 use Rattle.board.specs.declared.Board.{Board}
-use Rattle.serving.specs.Serving.{Bus, bus, filled, told-in, taken-in, fill-with, left-with, stir-with, fill-by, pending-in, Waiting, Roomy, Served}
-use Rattle.serving.proofs.Waits.{relisted-own, relisted-other, relisted-roomy, waiting-small}
+use Rattle.attending.specs.Attending.{pending-in, Waiting, Roomy}
+use Rattle.serving.specs.Serving.{Bus, bus, filled, told-in, taken-in, fill-with, left-with, stir-with, fill-by, Served}
+use Rattle.attending.proofs.Waits.{relisted-own, relisted-other, relisted-roomy, waiting-small}
 use Rattle.event.specs.Course.{waiting, messages, Fits}
 
 -- a choice by whether a node is the number of slots, where what is chosen for a node is the same

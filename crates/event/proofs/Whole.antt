@@ -17,7 +17,8 @@ use Rattle.starting.specs.News.{Soonest}
 use Rattle.slot_items.specs.Packing.{stir-by}
 use Rattle.board.specs.declared.Board.{Board}
 use Rattle.clocks.specs.Clocks.{new-at, served-by, sooner-by, ends-now, changes-at, event-now}
-use Rattle.serving.specs.Serving.{Bus, bus, taken-in, fill-with, left-with, stir-with, fill-by, due-from, attend-by, Waiting, Roomy, Attended-all, Served}
+use Rattle.attending.specs.Attending.{due-from, attend-by, Waiting, Roomy, Attended-all}
+use Rattle.serving.specs.Serving.{Bus, bus, taken-in, fill-with, left-with, stir-with, fill-by, Served}
 use Rattle.event.specs.Course.{last-event, Moment, moment, hears, begins-with, waiting, messages, notes, next, Fits}
 use Rattle.event.specs.Kept.{Kept, Queued}
 use Rattle.event.specs.Ending.{Ending}

@@ -15,7 +15,8 @@ use Rattle.timetable.specs.Bus.{beginning-at}
 use Rattle.starting.specs.Starting.{Ends, starts-by}
 use Rattle.clocks.specs.Clocks.{first-or, come-by}
 use Rattle.runnable.specs.Hearing.{heard-by}
-use Rattle.serving.specs.Serving.{Bus, bus, waiting-in, pending-in, fill-by}
+use Rattle.attending.specs.Attending.{waiting-in, pending-in}
+use Rattle.serving.specs.Serving.{Bus, bus, fill-by}
 use Rattle.board.specs.declared.Board.{Board}
 
 -- the last clock at which an event is looked at: no delay reaches it

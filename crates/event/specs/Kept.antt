@@ -10,7 +10,7 @@ use lib.ListN.{length, getD}
 use Rattle.starting.specs.Quiet.{Idle}
 use Rattle.board.specs.declared.Board.{Board}
 use Rattle.clocks.specs.Clocks.{no-event}
-use Rattle.serving.specs.Serving.{due-from, Waiting, Roomy}
+use Rattle.attending.specs.Attending.{due-from, Waiting, Roomy}
 use Rattle.event.specs.Course.{Moment, begins-by, waiting, messages}
 
 -- a clock that is past, or at which a slot ends that began before the clock u

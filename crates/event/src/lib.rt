@@ -1,5 +1,6 @@
 // One event of the planning of a combination: a process ends, a slot that carries something ends, or a slot begins whose node has a ready
 // item. specs/Course.antt says what an event does and when the next one is, specs/Kept.antt what is kept from event to event so that nothing is worked out twice.
+use attending::attend;
 use clocks::changes;
 use clocks::ends_after;
 use clocks::news;
@@ -7,7 +8,6 @@ use clocks::next_event;
 use clocks::served;
 use clocks::sooner;
 use runnable::heard;
-use serving::attend;
 use serving::serve;
 use starting::starts;
 ghost use mathlib.Core.Path.{_≡_};

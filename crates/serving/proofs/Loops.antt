@@ -1,14 +1,12 @@
--- What the proofs of the functions rest on: a choice whose test is known, what a slot leaves part by part, and how late a slot may begin.
+-- What the proof of `fill` rests on: a choice whose test is known, what is made by an equal test, and what a slot leaves part by part.
 -- Assumes nothing.
-use Prim.Native.Nat.{ℕ, _+_, _-_, _%_, _≤_}
+use Prim.Native.Nat.{ℕ, _+_}
 use mathlib.Core.Path.{_≡_, sym, ap, _∙_}
 use mathlib.Core.Bool.{Bool, true, false}
 use mathlib.Core.List.{List}
-use native.Mathlib.Omega.{arith}
-use lib.Dec.{eqb, leb}
+use lib.Dec.{eqb}
 use lib.ListN.{getD, set}
 use Rattle.lists.specs.Lists.{if_then_else_}
-use Rattle.timetable.specs.Bus.{beginning-at}
 use Rattle.slot_items.specs.Packing.{Load, load}
 use Rattle.serving.specs.Serving.{Bus, bus, filled}
 
@@ -19,18 +17,13 @@ when x y e = sym (ap (λ (q : Bool). if q then x else y) e)
 pub unless : {A : Type 0} {b : Bool} (x y : A) → b ≡ false → y ≡ (if b then x else y)
 unless x y e = sym (ap (λ (q : Bool). if q then x else y) e)
 
+-- what is made by a test is made by an equal one
+pub chosen : {A : Type 0} {x : A} (f : Bool → A) (s t : Bool) → x ≡ f s → s ≡ t → x ≡ f t
+chosen f s t p q = p ∙ ap f q
+
 -- what a slot leaves, part by part
 pub filled-parts : (n end : ℕ) (s : Bus) {l : Load} {t : Bool} (used : ℕ) (short told : Bool) (comes place : List ℕ) {flight heard : ℕ} {passed : List ℕ} →
     load used short comes place ≡ l → told ≡ t → flight ≡ (if eqb used 0 then s .flight else end) → heard ≡ (if told then end else s .told) →
     passed ≡ (if short then set (s .passed) n (getD (s .passed) n 0 + 1) else s .passed) → bus flight heard comes place passed ≡ filled n end l t s
 unfolding filled
 filled-parts n end s used short told comes place e f a b c = (λ i. bus (a i) (b i) comes place (c i)) ∙ (λ i. filled n end (e i) (f i) s)
-
--- the first beginning of a slot at or after a tick is not after it by more than a round and the offset
-pub beginning-most : (round offset t : ℕ) → beginning-at round offset t ≤ (t + round) + offset
-unfolding beginning-at
-beginning-most round offset t = at (leb (t % round) offset)
-  where
-    at : (q : Bool) → (t - t % round) + (if q then offset else round + offset) ≤ (t + round) + offset
-    at true = omega arith
-    at false = omega arith

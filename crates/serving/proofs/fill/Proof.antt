@@ -1,24 +1,39 @@
 -- `serving::fill` meets its contract: what `send` leaves, and the ends and the count by the three tests.
 -- Assumes nothing.
-use mathlib.Core.Path.{_≡_, ap, _∙_}
+use mathlib.Core.Path.{_≡_, _∙_}
 use mathlib.Core.Logic.{⊎-elim}
 use mathlib.Core.Bool.{Bool}
-use Prim.Native.Nat.{_+_}
+use mathlib.Core.List.{List}
+use Prim.Native.Nat.{ℕ, _+_}
 use native.Mathlib.Omega.{arith}
 use lib.Dec.{eqb}
 use lib.ListN.{getD, set}
 use borrow.Author.Tests.{eq-eqb, ne-eqb}
 use Rattle.lists.specs.Lists.{if_then_else_}
 use Rattle.readiness.specs.Reading.{part}
-use Rattle.slot_items.specs.Packing.{Load, stir-all, stir-taken}
-use Rattle.serving.specs.Serving.{bus, tells-in, fill-with, left-with, stir-with}
-use Rattle.serving.proofs.Loops.{when, unless, filled-parts}
+use Rattle.slot_items.specs.Packing.{stir-all, stir-taken}
+use Rattle.serving.specs.Serving.{bus, tells-in, told-in, fill-with, left-with, stir-with}
+use Rattle.serving.proofs.Loops.{when, unless, filled-parts, chosen}
 use borrow.Author.Needs.{needs}
 use Rattle.serving.proofs.fill.Statement.{statement}
 use Rattle.serving.proofs.fill.Tie as tie
 
 abbrev entry : tie.After-send → tie.Start
 entry c = c .before .before .before .before .before .before .before .before .before
+
+-- whether the slot takes a broadcast, and the nodes that are stirred by that
+abbrev told : tie.After-send → Bool
+told s =
+    let a = entry s .args in
+    told-in (a .processes) (a .tell) (a .conditions) (a .decider .now) (a .node .now) (a .bytes .now) (a .lasts .now) (a .rooms .now) (a .n) (a .u) (a .comes .now) (a .place .now)
+
+abbrev stirs : tie.After-send → Bool → List ℕ
+stirs s b =
+    let a = entry s .args in
+    let end = a .u + getD (a .lasts .now) (a .n) 0 in
+    let ws = part (a .wait .now) (getD (a .queuefirst .now) (a .n) 0) (getD (a .waitend .now) (a .n) 0) in
+    let first = tells-in (a .processes) (a .tell) (a .conditions) (a .decider .now) (a .node .now) (a .bytes .now) (a .lasts .now) (a .rooms .now) (a .n) (a .u) (a .comes .now) (a .place .now) in
+    stir-taken (a .processes) (a .bytes .now) (getD (a .rooms .now) (a .n) 0) end (a .remote .now) ws first (if b then stir-all end (a .slots) (a .stirred .now) else a .stirred .now)
 
 -- the count after the test of what was not taken, and the end of the last slot used
 counted : (c : tie.Joined1) → let s = entry (c .before .before) in let xs = s .args .passed .now in c .if1 .passed ≡ (if c .before .before .send .result .short then set xs (s .args .n) (getD xs (s .args .n) 0 + 1) else xs)
@@ -104,18 +119,15 @@ returns c =
     let s = k .before .before in
     let a = entry s .args in
     let e = s .send .ensures in
-    let end = a .u + getD (a .lasts .now) (a .n) 0 in
-    let ws = part (a .wait .now) (getD (a .queuefirst .now) (a .n) 0) (getD (a .waitend .now) (a .n) 0) in
-    let first = tells-in (a .processes) (a .tell) (a .conditions) (a .decider .now) (a .node .now) (a .bytes .now) (a .lasts .now) (a .rooms .now) (a .n) (a .u) (a .comes .now) (a .place .now) in (
+    let end = a .u + getD (a .lasts .now) (a .n) 0 in (
       filled-parts (a .n) end (bus (a .flight) (a .told) (a .comes .now) (a .place .now) (a .passed .now)) (s .send .result .used) (s .send .result .short) (s .send .result .told) _ _ (e .0) (e .1 .0) (flew j) (when end (a .told) (c .if3 .taken)) (counted k),
       (
-        ap (λ (x : Load). x .short) (e .0),
+        (λ i. e .0 i .short),
         (
           e .1 .1 .0,
           (
             e .1 .1 .1 .0,
-            e .1 .1 .1 .1
-                ∙ ap (λ (b : Bool). stir-taken (a .processes) (a .bytes .now) (getD (a .rooms .now) (a .n) 0) end (a .remote .now) ws first (if b then stir-all end (a .slots) (a .stirred .now) else a .stirred .now)) (e .1 .0),
+            chosen (stirs s) (s .send .result .told) (told s) (e .1 .1 .1 .1) (e .1 .0),
           ),
         ),
       ),
@@ -129,18 +141,15 @@ returns-2 c =
     let s = k .before .before in
     let a = entry s .args in
     let e = s .send .ensures in
-    let end = a .u + getD (a .lasts .now) (a .n) 0 in
-    let ws = part (a .wait .now) (getD (a .queuefirst .now) (a .n) 0) (getD (a .waitend .now) (a .n) 0) in
-    let first = tells-in (a .processes) (a .tell) (a .conditions) (a .decider .now) (a .node .now) (a .bytes .now) (a .lasts .now) (a .rooms .now) (a .n) (a .u) (a .comes .now) (a .place .now) in (
+    let end = a .u + getD (a .lasts .now) (a .n) 0 in (
       filled-parts (a .n) end (bus (a .flight) (a .told) (a .comes .now) (a .place .now) (a .passed .now)) (s .send .result .used) (s .send .result .short) (s .send .result .told) _ _ (e .0) (e .1 .0) (flew j) (unless end (a .told) (c .if3 .left)) (counted k),
       (
-        ap (λ (x : Load). x .short) (e .0),
+        (λ i. e .0 i .short),
         (
           e .1 .1 .0,
           (
             e .1 .1 .1 .0,
-            e .1 .1 .1 .1
-                ∙ ap (λ (b : Bool). stir-taken (a .processes) (a .bytes .now) (getD (a .rooms .now) (a .n) 0) end (a .remote .now) ws first (if b then stir-all end (a .slots) (a .stirred .now) else a .stirred .now)) (e .1 .0),
+            chosen (stirs s) (s .send .result .told) (told s) (e .1 .1 .1 .1) (e .1 .0),
           ),
         ),
       ),

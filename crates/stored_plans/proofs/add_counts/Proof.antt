@@ -1,15 +1,15 @@
--- `courses::add_counts` meets its contract: before turn n the counts of the first n nodes are added.
+-- `stored_plans::add_counts` meets its contract: before turn n the counts of the first n nodes are added.
 -- Assumes nothing.
 use mathlib.Core.Path.{_≡_, ap, _∙_}
 use mathlib.Core.List.{List}
 use Prim.Native.Nat.{ℕ, _≤_, _-_}
 use native.Mathlib.Omega.{arith}
 use lib.ListN.{getD}
-use Rattle.courses.specs.Courses.{added}
-use Rattle.courses.proofs.Adding.{added-past, added-next}
-use Rattle.courses.proofs.add_counts.Statement.{statement}
+use Rattle.stored_plans.specs.Stored.{added}
+use Rattle.stored_plans.proofs.Adding.{added-past, added-next}
+use Rattle.stored_plans.proofs.add_counts.Statement.{statement}
 use borrow.Author.Needs.{needs}
-use Rattle.courses.proofs.add_counts.Tie as tie
+use Rattle.stored_plans.proofs.add_counts.Tie as tie
 
 abbrev Inv-loop : tie.InvT-loop
 Inv-loop counts slots totals₀ n₀ totals n = (n ≤ slots) × (totals ≡ added counts totals₀ n)

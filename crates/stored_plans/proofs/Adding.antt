@@ -10,7 +10,7 @@ use lib.Dec.{eqb}
 use lib.ListN.{length, getD, set, length-set}
 use lib.Seq.{getD-set-same, getD-set-other}
 use borrow.Author.Tests.{eqb-true, eqb-false}
-use Rattle.courses.specs.Courses.{added}
+use Rattle.stored_plans.specs.Stored.{added}
 
 module _ (counts totals : List ℕ) where
   pub added-long : (n : ℕ) → length (added counts totals n) ≡ length totals

@@ -1,14 +1,13 @@
--- `serving::due_from` meets its contract: the first beginning where an item is pending, and no event where none is.
+-- `attending::due_from` meets its contract: the first beginning where an item is pending, and no event where none is.
 -- Assumes nothing.
-use mathlib.Core.Path.{_≡_, ap}
+use mathlib.Core.Path.{ap}
 use Prim.Native.Nat.{ℕ, _+_}
 use native.Mathlib.Omega.{arith}
 use borrow.Author.Needs.{needs}
-use Rattle.timetable.specs.Bus.{beginning-at}
-use Rattle.serving.specs.Serving.{due-from}
-use Rattle.serving.proofs.Loops.{beginning-most}
-use Rattle.serving.proofs.due_from.Statement.{statement}
-use Rattle.serving.proofs.due_from.Tie as tie
+use Rattle.attending.specs.Attending.{due-from}
+use Rattle.attending.proofs.Beginnings.{beginning-most}
+use Rattle.attending.proofs.due_from.Statement.{statement}
+use Rattle.attending.proofs.due_from.Tie as tie
 
 first-beginning-requires : tie.Need-first-beginning-requires
 first-beginning-requires c κs = search needs

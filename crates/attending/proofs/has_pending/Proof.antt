@@ -1,4 +1,4 @@
--- `serving::has_pending` meets its contract: the messages that wait are listed anew; some item is pending where one is listed or a broadcast waits.
+-- `attending::has_pending` meets its contract: the messages that wait are listed anew; some item is pending where one is listed or a broadcast waits.
 -- Assumes nothing.
 use mathlib.Core.Path.{refl, sym, ap, _∙_}
 use mathlib.Core.Bool.{Bool, _||_}
@@ -9,11 +9,11 @@ use lib.ListN.{getD}
 use Rattle.lists.specs.Lists.{any, below}
 use Rattle.readiness.specs.Reading.{part}
 use Rattle.slot_items.specs.Packing.{waits-by, tells-by, pending-by}
-use Rattle.serving.specs.Serving.{pending-in}
-use Rattle.serving.proofs.Waits.{some-waits, none-waits}
+use Rattle.attending.specs.Attending.{pending-in}
+use Rattle.attending.proofs.Waits.{some-waits, none-waits}
 use borrow.Author.Needs.{needs}
-use Rattle.serving.proofs.has_pending.Statement.{statement}
-use Rattle.serving.proofs.has_pending.Tie as tie
+use Rattle.attending.proofs.has_pending.Statement.{statement}
+use Rattle.attending.proofs.has_pending.Tie as tie
 
 mul-a : tie.Need-mul-a
 mul-a c = search needs

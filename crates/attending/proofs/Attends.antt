@@ -16,7 +16,7 @@ use Rattle.lists.proofs.Different.{keep-different, different-parts, different-u
 use Rattle.model.specs.Listing.{bit}
 use Rattle.mask.specs.Masks.{nodes, steps}
 use Rattle.mask.proofs.Steps.{steps-kept}
-use Rattle.serving.specs.Serving.{attend-node, attend-below, attend-in}
+use Rattle.attending.specs.Attending.{attend-node, attend-below, attend-in}
 
 module _ (told u : ℕ) (pending : ℕ → Bool) (busy : List ℕ) (round : ℕ) (offset : List ℕ) (slots : ℕ) where
   abbrev one : ℕ → List ℕ → List ℕ

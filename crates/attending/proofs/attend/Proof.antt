@@ -1,4 +1,4 @@
--- `serving::attend` meets its contract: where something changes, the nodes that are left of those for which something is new give the whole answer, and
+-- `attending::attend` meets its contract: where something changes, the nodes that are left of those for which something is new give the whole answer, and
 -- nothing changes elsewhere.
 -- Assumes nothing.
 use mathlib.Core.Path.{_≡_, refl, sym, ap, _∙_, subst}
@@ -13,11 +13,11 @@ use Rattle.mask.specs.Masks.{nodes, steps}
 use Rattle.mask.proofs.Sets.{node-small, nodes-none}
 use Rattle.slot_items.specs.Packing.{waits-by}
 use Rattle.mask.proofs.Steps.{steps-next, steps-end}
-use Rattle.serving.specs.Serving.{pending-in, waiting-in, attend-below, attend-in, attend-by}
-use Rattle.serving.proofs.Attends.{in-node, in-none, attends, quiet-nodes, nodes-once}
-use Rattle.serving.proofs.Waits.{waiting-small, Attending, attending-as, attending-start, attending-past, attending-next, attending-end}
-use Rattle.serving.proofs.attend.Statement.{statement}
-use Rattle.serving.proofs.attend.Tie as tie
+use Rattle.attending.specs.Attending.{pending-in, waiting-in, attend-below, attend-in, attend-by}
+use Rattle.attending.proofs.Attends.{in-node, in-none, attends, quiet-nodes, nodes-once}
+use Rattle.attending.proofs.Waits.{waiting-small, Attending, attending-as, attending-start, attending-past, attending-next, attending-end}
+use Rattle.attending.proofs.attend.Statement.{statement}
+use Rattle.attending.proofs.attend.Tie as tie
 
 abbrev Inv-loop : tie.InvT-loop
 Inv-loop processes tell conditions slots decider node queuefirst queue from cue unmet comes busy round offset come told u new due₀ wait₀ waitend₀ left₀ due wait waitend left =

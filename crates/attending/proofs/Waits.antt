@@ -19,7 +19,7 @@ use Rattle.readiness.proofs.Parts.{part-end, part-next, part-in}
 use Rattle.slot_items.specs.Packing.{Listed}
 use Rattle.slot_items.proofs.Places.{part-same, listed-small}
 use Rattle.slot_items.proofs.Scan.{keep-some}
-use Rattle.serving.specs.Serving.{Waiting, Roomy, Relisted, Attended-node, Attended}
+use Rattle.attending.specs.Attending.{Waiting, Roomy, Relisted, Attended-node, Attended}
 
 -- the messages that wait are those of edges
 pub waiting-small : (from cue queue : List ℕ) → Within from cue queue → (f : ℕ → Bool) (a b x : ℕ) → In x (keep f (part queue a b)) → x < 128

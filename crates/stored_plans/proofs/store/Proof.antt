@@ -1,12 +1,12 @@
--- `courses::store` meets its contract: the parts of the arrays are stored one after another.
+-- `stored_plans::store` meets its contract: the parts of the arrays are stored one after another.
 -- Assumes nothing.
 use mathlib.Core.Path.{refl, ap, _∙_}
 use mathlib.Core.List.{List}
 use Prim.Native.Nat.{ℕ, _+_, _*_}
 use lib.Seq.{sets}
 use borrow.Author.Needs.{needs}
-use Rattle.courses.proofs.store.Statement.{statement}
-use Rattle.courses.proofs.store.Tie as tie
+use Rattle.stored_plans.proofs.store.Statement.{statement}
+use Rattle.stored_plans.proofs.store.Tie as tie
 
 mul-since : tie.Need-mul-since
 mul-since c = search needs

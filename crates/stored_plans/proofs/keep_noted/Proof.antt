@@ -1,4 +1,4 @@
--- `courses::keep_noted` meets its contract: before turn i what is left to store gives the whole.
+-- `stored_plans::keep_noted` meets its contract: before turn i what is left to store gives the whole.
 -- Assumes nothing.
 use mathlib.Core.Path.{_≡_, ap}
 use Prim.Native.Nat.{ℕ, _≤_, _+_, _-_}
@@ -6,9 +6,9 @@ use native.Mathlib.Omega.{arith}
 use lib.ListN.{drop}
 use lib.Seq.{sets}
 use Rattle.lists.proofs.Stores.{stores-next, stores-end}
-use Rattle.courses.proofs.keep_noted.Statement.{statement}
+use Rattle.stored_plans.proofs.keep_noted.Statement.{statement}
 use borrow.Author.Needs.{needs}
-use Rattle.courses.proofs.keep_noted.Tie as tie
+use Rattle.stored_plans.proofs.keep_noted.Tie as tie
 
 abbrev Inv-loop : tie.InvT-loop
 Inv-loop noted at notes₀ i₀ notes i = (i ≤ 48) × (sets notes (at + i) (drop i noted) ≡ sets notes₀ at noted)

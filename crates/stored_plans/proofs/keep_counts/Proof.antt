@@ -1,4 +1,4 @@
--- `courses::keep_counts` meets its contract: before turn n what is left to store gives the whole.
+-- `stored_plans::keep_counts` meets its contract: before turn n what is left to store gives the whole.
 -- Assumes nothing.
 use mathlib.Core.Path.{_≡_, ap}
 use Prim.Native.Nat.{ℕ, _≤_, _+_, _-_}
@@ -6,9 +6,9 @@ use native.Mathlib.Omega.{arith}
 use lib.ListN.{drop}
 use lib.Seq.{sets}
 use Rattle.lists.proofs.Stores.{stores-next, stores-end}
-use Rattle.courses.proofs.keep_counts.Statement.{statement}
+use Rattle.stored_plans.proofs.keep_counts.Statement.{statement}
 use borrow.Author.Needs.{needs}
-use Rattle.courses.proofs.keep_counts.Tie as tie
+use Rattle.stored_plans.proofs.keep_counts.Tie as tie
 
 abbrev Inv-loop : tie.InvT-loop
 Inv-loop counts at notes₀ n₀ notes n = (n ≤ 8) × (sets notes (at + n) (drop n counts) ≡ sets notes₀ at counts)

@@ -1,9 +1,8 @@
--- `serving::may_change` meets its contract: its tests are those of the definition.
+-- `attending::may_change` meets its contract: its tests are those of the definition.
 -- Assumes nothing.
-use mathlib.Core.Path.{sym, _∙_}
 use borrow.Author.Tests.{eq-eqb, ne-eqb}
-use Rattle.serving.proofs.may_change.Statement.{statement}
-use Rattle.serving.proofs.may_change.Tie as tie
+use Rattle.attending.proofs.may_change.Statement.{statement}
+use Rattle.attending.proofs.may_change.Tie as tie
 
 returns : tie.Need-returns
 returns c = rw (eq-eqb _ _ (c .if1 .taken))

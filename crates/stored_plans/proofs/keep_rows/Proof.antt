@@ -1,4 +1,4 @@
--- `courses::keep_rows` meets its contract: before turn r what is left to store gives the whole.
+-- `stored_plans::keep_rows` meets its contract: before turn r what is left to store gives the whole.
 -- Assumes nothing.
 use mathlib.Core.Path.{_≡_, ap}
 use Prim.Native.Nat.{ℕ, _≤_, _+_, _*_, _-_}
@@ -6,9 +6,9 @@ use native.Mathlib.Omega.{arith}
 use lib.ListN.{drop}
 use lib.Seq.{sets}
 use Rattle.lists.proofs.Stores.{stores-next, stores-end}
-use Rattle.courses.proofs.keep_rows.Statement.{statement}
+use Rattle.stored_plans.proofs.keep_rows.Statement.{statement}
 use borrow.Author.Needs.{needs}
-use Rattle.courses.proofs.keep_rows.Tie as tie
+use Rattle.stored_plans.proofs.keep_rows.Tie as tie
 
 abbrev Inv-loop : tie.InvT-loop
 Inv-loop rows c all₀ r₀ all r = (r ≤ 198) × (sets all (c * 198 + r) (drop r rows) ≡ sets all₀ (c * 198) rows)

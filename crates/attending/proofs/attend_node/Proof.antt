@@ -1,13 +1,13 @@
--- `serving::attend_node` meets its contract: what the node has pending is looked up where it may change, and nothing changes elsewhere.
+-- `attending::attend_node` meets its contract: what the node has pending is looked up where it may change, and nothing changes elsewhere.
 -- Assumes nothing.
 use mathlib.Core.Path.{refl, sym, ap, _∙_}
 use Prim.Native.Nat.{_-_}
 use lib.ListN.{getD, set}
 use Rattle.lists.proofs.Tests.{clash}
-use Rattle.serving.specs.Serving.{due-from, attend-node}
+use Rattle.attending.specs.Attending.{due-from, attend-node}
 use borrow.Author.Needs.{needs}
-use Rattle.serving.proofs.attend_node.Statement.{statement}
-use Rattle.serving.proofs.attend_node.Tie as tie
+use Rattle.attending.proofs.attend_node.Statement.{statement}
+use Rattle.attending.proofs.attend_node.Tie as tie
 
 mul-may-change : tie.Need-mul-may-change
 mul-may-change c = search needs
