@@ -2,10 +2,10 @@
 // follow each other are a run: how their lines end is worked out once, and how they begin once for the runs of one row.
 use listing_column::known_sets;
 use listing_column::put_values;
-use store::put_digits;
-use store::put_labelled;
 use store::put_long;
 use store::put_word;
+use store_numbers::put_digits;
+use store_numbers::put_labelled;
 ghost use mathlib.Core.Path.{_≡_};
 ghost use mathlib.Core.Bool.{true};
 ghost use Prim.Native.Nat.{_+_, _^_, _≤_};

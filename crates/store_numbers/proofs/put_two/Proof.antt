@@ -1,9 +1,9 @@
--- `store::put_two` meets its contract: the tens are stored, then the ones.
+-- `store_numbers::put_two` meets its contract: the tens are stored, then the ones.
 -- Assumes nothing.
 use Rattle.text.proofs.Puts.{put-then}
 use borrow.Author.Needs.{needs}
-use Rattle.store.proofs.put_two.Statement.{statement}
-use Rattle.store.proofs.put_two.Tie as tie
+use Rattle.store_numbers.proofs.put_two.Statement.{statement}
+use Rattle.store_numbers.proofs.put_two.Tie as tie
 
 put-digit-requires : tie.Need-put-digit-requires
 put-digit-requires c κs = search needs

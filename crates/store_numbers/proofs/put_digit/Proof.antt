@@ -1,9 +1,9 @@
--- `store::put_digit` meets its contract: one byte is stored.
+-- `store_numbers::put_digit` meets its contract: one byte is stored.
 -- Assumes nothing.
 use mathlib.Core.Path.{refl}
 use borrow.Author.Needs.{needs}
-use Rattle.store.proofs.put_digit.Statement.{statement}
-use Rattle.store.proofs.put_digit.Tie as tie
+use Rattle.store_numbers.proofs.put_digit.Statement.{statement}
+use Rattle.store_numbers.proofs.put_digit.Tie as tie
 
 digit-requires : tie.Need-digit-requires
 digit-requires c κs = search needs

@@ -1,9 +1,9 @@
--- `store::put_four` meets its contract: the two upper digits are stored, then the two lower ones.
+-- `store_numbers::put_four` meets its contract: the two upper digits are stored, then the two lower ones.
 -- Assumes nothing.
 use Rattle.text.proofs.Puts.{put-then}
 use borrow.Author.Needs.{needs}
-use Rattle.store.proofs.put_four.Statement.{statement}
-use Rattle.store.proofs.put_four.Tie as tie
+use Rattle.store_numbers.proofs.put_four.Statement.{statement}
+use Rattle.store_numbers.proofs.put_four.Tie as tie
 
 put-two-requires : tie.Need-put-two-requires
 put-two-requires c κs = search needs

@@ -1,11 +1,11 @@
--- `store::put_labelled` meets its contract: the label is stored, then the digits.
+-- `store_numbers::put_labelled` meets its contract: the label is stored, then the digits.
 -- Assumes nothing.
 use Rattle.model.specs.Text.{decimal}
 use Rattle.text.proofs.Puts.{put-then}
 use Rattle.store.proofs.Stored.{fits-first, fits-rest}
 use borrow.Author.Needs.{needs}
-use Rattle.store.proofs.put_labelled.Statement.{statement}
-use Rattle.store.proofs.put_labelled.Tie as tie
+use Rattle.store_numbers.proofs.put_labelled.Statement.{statement}
+use Rattle.store_numbers.proofs.put_labelled.Tie as tie
 
 put-word-requires : tie.Need-put-word-requires
 put-word-requires c κs =

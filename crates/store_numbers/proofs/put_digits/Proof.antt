@@ -1,13 +1,13 @@
--- `store::put_digits` meets its contract: the digits above the last four are stored, and above the last eight, then each four.
+-- `store_numbers::put_digits` meets its contract: the digits above the last four are stored, and above the last eight, then each four.
 -- Assumes nothing.
 use native.Mathlib.Omega.{arith}
 use Prim.Native.Nat.{_/_}
 use Rattle.text.proofs.Puts.{put-then}
-use Rattle.store.proofs.Digits.{decimal-fours}
+use Rattle.store_numbers.proofs.Digits.{decimal-fours}
 use Rattle.store.proofs.Stored.{fits-first, fits-rest}
 use borrow.Author.Needs.{needs}
-use Rattle.store.proofs.put_digits.Statement.{statement}
-use Rattle.store.proofs.put_digits.Tie as tie
+use Rattle.store_numbers.proofs.put_digits.Statement.{statement}
+use Rattle.store_numbers.proofs.put_digits.Tie as tie
 
 put-short-requires : tie.Need-put-short-requires
 put-short-requires c κs = search needs

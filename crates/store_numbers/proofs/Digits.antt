@@ -6,7 +6,7 @@ use Prim.Native.Nat.{ℕ, _+_, _/_, _%_, _≤_, _<_}
 use native.Mathlib.Omega.{arith}
 use Rattle.model.specs.Text.{decimal}
 use Rattle.grammar.proofs.Numbers.{decimal-small, decimal-large}
-use Rattle.store.specs.Digits.{two-digits, four-digits}
+use Rattle.store_numbers.specs.Digits.{two-digits, four-digits}
 
 pub decimal-two : (n : ℕ) → 10 ≤ n → n < 100 → decimal n ≡ two-digits n
 decimal-two n l h = decimal-large n l ∙ rw (decimal-small (n / 10) (omega arith))

@@ -1,13 +1,13 @@
--- `store::put_short` meets its contract: by how many digits the number has.
+-- `store_numbers::put_short` meets its contract: by how many digits the number has.
 -- Assumes nothing.
 use native.Mathlib.Omega.{arith}
 use Rattle.grammar.proofs.Numbers.{decimal-small}
 use Rattle.text.proofs.Puts.{put-then}
-use Rattle.store.proofs.Digits.{decimal-two, decimal-three, decimal-four}
+use Rattle.store_numbers.proofs.Digits.{decimal-two, decimal-three, decimal-four}
 use Rattle.store.proofs.Stored.{fits-first, fits-rest}
 use borrow.Author.Needs.{needs}
-use Rattle.store.proofs.put_short.Statement.{statement}
-use Rattle.store.proofs.put_short.Tie as tie
+use Rattle.store_numbers.proofs.put_short.Statement.{statement}
+use Rattle.store_numbers.proofs.put_short.Tie as tie
 
 put-digit-requires : tie.Need-put-digit-requires
 put-digit-requires c κs =

@@ -1,10 +1,10 @@
--- `store::put_number` meets its contract: a number below ten is its digit.
+-- `store_numbers::put_number` meets its contract: a number below ten is its digit.
 -- Assumes nothing.
 use native.Mathlib.Omega.{arith}
 use Rattle.grammar.proofs.Numbers.{decimal-small}
 use borrow.Author.Needs.{needs}
-use Rattle.store.proofs.put_number.Statement.{statement}
-use Rattle.store.proofs.put_number.Tie as tie
+use Rattle.store_numbers.proofs.put_number.Statement.{statement}
+use Rattle.store_numbers.proofs.put_number.Tie as tie
 
 put-digit-requires : tie.Need-put-digit-requires
 put-digit-requires c κs =
