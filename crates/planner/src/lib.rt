@@ -23,7 +23,7 @@ ghost use Rattle.model.specs.Table.{plan-answer, table-after, frames-after};
 ghost use Rattle.plan.specs.Memory.{lines};
 ghost use Rattle.board.specs.Board.{Boarded};
 ghost use Rattle.entries.specs.Logs.{Logs};
-ghost use Rattle.entries.specs.Words.{Laid, table as table-words};
+ghost use Rattle.entry_words.specs.Words.{Laid, table as table-words};
 ghost use Rattle.frames.specs.Packed.{packed-words};
 ghost use Rattle.courses.specs.Courses.{Planned-all};
 ghost use Rattle.planner.specs.Planner.{answer-of, Some-logs, Some-plans, Entered, Answers};
@@ -113,7 +113,7 @@ fn write_both<'a>(
     if frames.len() < 3 * used {
         return false;
     }
-    entries::write(list, ends, rows, table);
+    entry_words::write(list, ends, rows, table);
     frames::write(out, used, frames);
     true
 }

@@ -1,4 +1,4 @@
--- `entries::write` meets its contract: before turn r what is left to store gives the whole.
+-- `entry_words::write` meets its contract: before turn r what is left to store gives the whole.
 -- Assumes nothing.
 use mathlib.Core.Path.{_≡_, refl, ap, _∙_}
 use Prim.Native.Nat.{_+_, _*_, _-_, _≤_}
@@ -6,11 +6,11 @@ use native.Mathlib.Omega.{arith}
 use lib.ListN.{length, getD}
 use lib.Seq.{sets, slice, length-sets}
 use Rattle.lists.specs.Lists.{each, upfrom}
-use Rattle.entries.specs.Words.{five, row-part, table}
-use Rattle.entries.proofs.Writing.{ends-up, table-start, table-next, table-end}
-use Rattle.entries.proofs.write.Statement.{statement}
+use Rattle.entry_words.specs.Words.{five, row-part, table}
+use Rattle.entry_words.proofs.Writing.{ends-up, table-start, table-next, table-end}
+use Rattle.entry_words.proofs.write.Statement.{statement}
 use borrow.Author.Needs.{needs}
-use Rattle.entries.proofs.write.Tie as tie
+use Rattle.entry_words.proofs.write.Tie as tie
 
 abbrev Inv-loop : tie.InvT-loop
 Inv-loop list ends rows words₀ r₀ words r =

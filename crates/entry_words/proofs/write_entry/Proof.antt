@@ -1,12 +1,12 @@
--- `entries::write_entry` meets its contract: five stores one after another.
+-- `entry_words::write_entry` meets its contract: five stores one after another.
 -- Assumes nothing.
 use mathlib.Core.Path.{_≡_}
 use Prim.Native.Nat.{suc, _+_}
 use native.Mathlib.Omega.{arith}
 use lib.ListN.{length-set}
 use borrow.Author.Needs.{needs}
-use Rattle.entries.proofs.write_entry.Statement.{statement}
-use Rattle.entries.proofs.write_entry.Tie as tie
+use Rattle.entry_words.proofs.write_entry.Statement.{statement}
+use Rattle.entry_words.proofs.write_entry.Tie as tie
 
 mul-words : tie.Need-mul-words
 mul-words c = search needs

@@ -11,7 +11,7 @@ use Rattle.lists.specs.Lists.{each, upfrom}
 use Rattle.lists.specs.Front.{front}
 use Rattle.lists.proofs.Loops.{upfrom-start, upfrom-next, upfrom-end}
 use Rattle.lists.proofs.Stores.{sets-append, sets-front}
-use Rattle.entries.specs.Words.{five, row-part, table, Laid}
+use Rattle.entry_words.specs.Words.{five, row-part, table, Laid}
 
 pub slice-next : (i b : ℕ) (list : List ℕ) → i < b → b ≤ length list → slice i b list ≡ getD list i 0 ∷ slice (i + 1) b list
 slice-next i b list l h = slice-cons i b list 0 l h ∙ ap (λ (k : ℕ). getD list i 0 ∷ slice k b list) (sym (add-one i))

@@ -1,4 +1,4 @@
--- `entries::write_row` meets its contract: before turn i what is left to store gives the whole.
+-- `entry_words::write_row` meets its contract: before turn i what is left to store gives the whole.
 -- Assumes nothing.
 use mathlib.Core.Path.{_≡_, refl, ap, _∙_}
 use Prim.Native.Nat.{_*_, _-_}
@@ -6,11 +6,11 @@ use native.Mathlib.Omega.{arith}
 use lib.ListN.{length, getD}
 use lib.Seq.{sets, slice, length-sets}
 use Rattle.lists.specs.Lists.{each}
-use Rattle.entries.specs.Words.{five}
-use Rattle.entries.proofs.Writing.{row-next, row-end}
-use Rattle.entries.proofs.write_row.Statement.{statement}
+use Rattle.entry_words.specs.Words.{five}
+use Rattle.entry_words.proofs.Writing.{row-next, row-end}
+use Rattle.entry_words.proofs.write_row.Statement.{statement}
 use borrow.Author.Needs.{needs}
-use Rattle.entries.proofs.write_row.Tie as tie
+use Rattle.entry_words.proofs.write_row.Tie as tie
 
 abbrev Inv-loop : tie.InvT-loop
 Inv-loop list a b row words₀ i₀ words i =

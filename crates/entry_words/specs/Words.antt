@@ -3,7 +3,7 @@
 use Prim.Native.Nat.{ℕ, _+_, _/_, _%_, _^_, _<_, _≤_}
 use mathlib.Core.Path.{_≡_}
 use mathlib.Core.List.{List, [], _∷_}
-use lib.ListN.{length, getD, take}
+use lib.ListN.{length, getD}
 use lib.Seq.{slice}
 use Rattle.lists.specs.Lists.{each, below}
 
@@ -25,11 +25,3 @@ pub record Laid (list ends : List ℕ) (rows : ℕ) : Type 0 where
   pub rising : (r : ℕ) → r < rows → getD ends r 0 ≤ getD ends (r + 1) 0
   pub inside : getD ends rows 0 ≤ 12672
   pub small : (i : ℕ) → i < getD ends rows 0 → getD list i 0 < 2 ^ 48
-
--- The numbers of each row stand in an array, row after row; `count` of them in all.
-pub record Listed (numbers : ℕ → List ℕ) (list ends : List ℕ) (rows count : ℕ) : Type 0 where
-  pub laid : Laid list ends rows
-  pub all : take count list ≡ each numbers (below rows)
-  pub counted : count ≡ length (each numbers (below rows))
-  pub last : getD ends rows 0 ≡ count
-  pub parts : (r : ℕ) → r < rows → row-part list ends r ≡ numbers r
