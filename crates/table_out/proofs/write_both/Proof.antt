@@ -1,11 +1,11 @@
--- `planner::write_both` meets its contract, by those of the two writers: where the frames do not fit it returns before anything is written.
+-- `table_out::write_both` meets its contract, by those of the two writers: where the frames do not fit it returns before anything is written.
 -- Assumes nothing.
 use mathlib.Core.Path.{refl, sym}
 use mathlib.Core.Bool.{true≢false}
 use native.Mathlib.Omega.{arith}
 use borrow.Author.Needs.{needs}
-use Rattle.planner.proofs.write_both.Statement.{statement}
-use Rattle.planner.proofs.write_both.Tie as tie
+use Rattle.table_out.proofs.write_both.Statement.{statement}
+use Rattle.table_out.proofs.write_both.Tie as tie
 
 mul-if1 : tie.Need-mul-if1
 mul-if1 c = search needs
