@@ -1,4 +1,4 @@
--- `listing_entries::put_line` meets its contract: its beginning is stored, then the conditions, then its end.
+-- `entry_lines::put_line` meets its contract: its beginning is stored, then the conditions, then its end.
 -- Assumes nothing.
 use Prim.Native.Nat.{_+_}
 use lib.ListN.{getD}
@@ -6,8 +6,8 @@ use Rattle.listing_parts.specs.Parts.{values-from}
 use Rattle.text.proofs.Puts.{put-then}
 use Rattle.store.proofs.Stored.{fits-first, fits-rest}
 use borrow.Author.Needs.{needs}
-use Rattle.listing_entries.proofs.put_line.Statement.{statement}
-use Rattle.listing_entries.proofs.put_line.Tie as tie
+use Rattle.entry_lines.proofs.put_line.Statement.{statement}
+use Rattle.entry_lines.proofs.put_line.Tie as tie
 
 put-long-requires : tie.Need-put-long-requires
 put-long-requires c κs =

@@ -1,12 +1,12 @@
--- `listing_entries::put_begin` meets its contract: the first word and the number are stored, then the column's first word.
+-- `entry_lines::put_begin` meets its contract: the first word and the number are stored, then the column's first word.
 -- Assumes nothing.
 use mathlib.Core.List.{_++_}
 use Rattle.model.specs.Text.{text, decimal}
 use Rattle.text.proofs.Puts.{put-then}
 use Rattle.store.proofs.Stored.{fits-first, fits-rest}
 use borrow.Author.Needs.{needs}
-use Rattle.listing_entries.proofs.put_begin.Statement.{statement}
-use Rattle.listing_entries.proofs.put_begin.Tie as tie
+use Rattle.entry_lines.proofs.put_begin.Statement.{statement}
+use Rattle.entry_lines.proofs.put_begin.Tie as tie
 
 put-labelled-requires : tie.Need-put-labelled-requires
 put-labelled-requires c κs =

@@ -1,13 +1,13 @@
--- `listing_entries::put_first` meets its contract: the row tells which text is stored.
+-- `entry_lines::put_first` meets its contract: the row tells which text is stored.
 -- Assumes nothing.
 use mathlib.Core.Path.{refl}
 use native.Mathlib.Omega.{arith}
 use Prim.Native.Nat.{_-_}
 use Rattle.model.specs.Text.{text}
-use Rattle.listing_entries.proofs.Laws.{put-holds, begin-fits, begin-start, begin-send, begin-tell, begin-none}
+use Rattle.entry_lines.proofs.Ends.{put-holds, begin-fits, begin-start, begin-send, begin-tell, begin-none}
 use borrow.Author.Needs.{needs}
-use Rattle.listing_entries.proofs.put_first.Statement.{statement}
-use Rattle.listing_entries.proofs.put_first.Tie as tie
+use Rattle.entry_lines.proofs.put_first.Statement.{statement}
+use Rattle.entry_lines.proofs.put_first.Tie as tie
 
 slice-aggregate-put-begin : tie.Need-slice-aggregate-put-begin
 slice-aggregate-put-begin c = search needs

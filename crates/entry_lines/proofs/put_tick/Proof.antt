@@ -1,9 +1,9 @@
--- `listing_entries::put_tick` meets its contract: the word before the tick is stored, then its digits.
+-- `entry_lines::put_tick` meets its contract: the word before the tick is stored, then its digits.
 -- Assumes nothing.
 use Rattle.text.proofs.Puts.{put-then}
 use borrow.Author.Needs.{needs}
-use Rattle.listing_entries.proofs.put_tick.Statement.{statement}
-use Rattle.listing_entries.proofs.put_tick.Tie as tie
+use Rattle.entry_lines.proofs.put_tick.Statement.{statement}
+use Rattle.entry_lines.proofs.put_tick.Tie as tie
 
 slice-aggregate-put-word : tie.Need-slice-aggregate-put-word
 slice-aggregate-put-word c = search needs

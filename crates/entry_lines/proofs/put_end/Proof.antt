@@ -1,14 +1,14 @@
--- `listing_entries::put_end` meets its contract: the tick is stored, then the place of an edge or a condition, then the end of the line.
+-- `entry_lines::put_end` meets its contract: the tick is stored, then the place of an edge or a condition, then the end of the line.
 -- Assumes nothing.
 use native.Mathlib.Omega.{arith}
 use Rattle.model.specs.Text.{text}
 use Rattle.text.specs.Label.{labelled}
 use Rattle.text.proofs.Puts.{put-then}
 use Rattle.store.proofs.Stored.{fits-first, fits-rest}
-use Rattle.listing_entries.proofs.Laws.{put-holds, start-fits, item-fits, end-start, end-item}
+use Rattle.entry_lines.proofs.Ends.{put-holds, start-fits, item-fits, end-start, end-item}
 use borrow.Author.Needs.{needs}
-use Rattle.listing_entries.proofs.put_end.Statement.{statement}
-use Rattle.listing_entries.proofs.put_end.Tie as tie
+use Rattle.entry_lines.proofs.put_end.Statement.{statement}
+use Rattle.entry_lines.proofs.put_end.Tie as tie
 
 put-tick-requires : tie.Need-put-tick-requires
 put-tick-requires c κs =
