@@ -3,7 +3,7 @@
 use mathlib.Core.Path.{_≡_}
 use mathlib.Core.Bool.{false}
 use mathlib.Core.List.{List, [], _∷_, map}
-use Prim.Native.Nat.{ℕ, _%_, _^_, _<_, min}
+use Prim.Native.Nat.{ℕ, _%_, min}
 use lib.ListN.{length, getD}
 use Rattle.lists.specs.Lists.{if_then_else_, any, below, greatest, fill}
 use Rattle.model.specs.Plan.{Lines}
