@@ -21,7 +21,13 @@ fn put_begin(out: &mut [u8], label: &[u8], number: u32) -> usize
 }
 
 // Stores how the lines of a row begin at the front of some bytes: nothing if the plan lacks the row.
-pub fn put_first(out: &mut [u8], processes: usize, edges: usize, conditions: usize, row: u32) -> usize
+pub fn put_first(
+    out: &mut [u8],
+    processes: usize,
+    edges: usize,
+    conditions: usize,
+    row: u32,
+) -> usize
     requires { ⌜ 32 ≤ length (now out) ⌝ }
     ensures { λ r. ⌜ Holds (now (out .exit)) r (begin-of processes edges conditions row) ⌝ }
 {
