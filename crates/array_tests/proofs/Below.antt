@@ -3,8 +3,7 @@
 use mathlib.Core.Path.{_≡_}
 use mathlib.Core.Bool.{false, _||_}
 use mathlib.Core.List.{List}
-use Prim.Native.Nat.{ℕ, _≤_, _<_}
-use native.Mathlib.Omega.{arith}
+use Prim.Native.Nat.{ℕ, _<_}
 use borrow.Author.Tests.{leb-false}
 use Rattle.lists.specs.Lists.{any, below}
 use Rattle.lists.proofs.Tests.{neither}
@@ -14,9 +13,6 @@ use Rattle.plan.specs.Refusing.{at, not-below-at, unordered-at, ends-test}
 all-below : (xs : List ℕ) (bound n : ℕ) → any (not-below-at xs bound) (below n) ≡ false → (i : ℕ) → i < n → at xs i < bound
 unfolding not-below-at
 all-below xs bound n h i l = leb-false bound (at xs i) (none-in (not-below-at xs bound) h (in-below n i l))
-
-pub all-small : (xs : List ℕ) (bound n : ℕ) → bound ≤ 64 → any (not-below-at xs bound) (below n) ≡ false → (i : ℕ) → i < n → at xs i < 64
-all-small xs bound n u h i l = let r = all-below xs bound n h i l in omega arith
 
 pub ends-below : (from to : List ℕ) (n bound : ℕ) → ends-test from to n bound ≡ false → (i : ℕ) → i < n → (at from i < bound) × (at to i < bound)
 unfolding ends-test

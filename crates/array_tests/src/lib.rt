@@ -78,9 +78,9 @@ fn stands_before(xs: &[u32], i: usize) -> bool
     false
 }
 
-// Among the first n numbers, each below 64 and at most eight of them, one stands twice.
+// Among the first n numbers, one stands twice.
 pub fn any_twice(xs: &[u32], n: usize) -> bool
-    requires { ⌜ n ≤ length (now xs) ⌝ ∗ ⌜ n ≤ 8 ⌝ ∗ ⌜ ((i : ℕ) → i < n → getD (now xs) i 0 < 64) ⌝ }
+    requires { ⌜ n ≤ length (now xs) ⌝ }
     ensures { λ r. ⌜ r ≡ any (earlier (at (now (xs .entry)))) (below n) ⌝ }
 {
     let mut i: usize = 0;

@@ -3,7 +3,7 @@
 use mathlib.Core.Path.{_≡_}
 use mathlib.Core.Bool.{false}
 use mathlib.Core.List.{List, [], _∷_, map}
-use Prim.Native.Nat.{ℕ, _%_, _^_, _<_, min}
+use Prim.Native.Nat.{ℕ, _%_, min}
 use lib.ListN.{length, getD}
 use Rattle.lists.specs.Lists.{if_then_else_, any, below, greatest, fill}
 use Rattle.model.specs.Plan.{Lines}
@@ -17,7 +17,7 @@ use Rattle.met.specs.Table.{met-rows, Small}
 use Rattle.due.specs.Due.{due-of, miscounted-by}
 use Rattle.readiness.specs.Reading.{last-end-by}
 use Rattle.first_sentence.specs.First.{first-in}
-use Rattle.combination.specs.declared.Found.{Found}
+use Rattle.judging.specs.declared.Found.{Found}
 
 -- which processes are active where these rows are due: 1, or 0
 abbrev pub active-from : List ℕ → ℕ → List ℕ

@@ -4,18 +4,13 @@ use board::Board;
 use due::due_rows;
 use first_sentence::active_of;
 use first_sentence::first_found;
+use judging::Found;
 use met::met_rows;
 use met::miscounts;
 use row_ends::last_end;
 ghost use mathlib.Core.Path.{_≡_};
 ghost use Prim.Native.Nat.{_^_, _<_, max, min};
 ghost use Rattle.combination.specs.Combination.{found-by, found-all, Tabled};
-
-// What is found in one combination, or in all: the first of refusals 14 to 19 that applies, 20 if none does, and the delay.
-pub struct Found {
-    pub first: u32,
-    pub delay: u32,
-}
 
 fn greater(x: u32, y: u32) -> u32
     ensures { λ r. ⌜ r ≡ max x y ⌝ }

@@ -41,12 +41,13 @@ use Rattle.readiness.proofs.Readings.{known-small, known-same, known-link}
 use Rattle.ascending.specs.Among.{multiple}
 use Rattle.ascending.proofs.Putting.{put-all-append}
 use Rattle.ascending.proofs.Multiples.{numbers-ascend}
+use Rattle.entry_words.specs.Words.{five, row-part, table}
+use Rattle.entry_words.proofs.Writing.{table-length}
 use Rattle.entries.specs.Numbers.{number, number-at, row-number, row-numbers, Readable}
-use Rattle.entries.specs.Words.{five, row-part, table, Listed}
+use Rattle.entries.specs.Listed.{Listed}
 use Rattle.entries.specs.Logs.{entry-from, block, numbered, plan-of, Logs}
 use Rattle.entries.proofs.Gathering.{each-next, row-absent, row-taken-over, row-own}
 use Rattle.entries.proofs.Small.{numbers-join}
-use Rattle.entries.proofs.Writing.{table-length}
 use Rattle.entries.proofs.Keys.{entries-put, put-again, entry-made, number-of-entry, number-back}
 
 -- what stands in combination c's part of an array

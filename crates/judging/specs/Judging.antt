@@ -4,7 +4,7 @@ use Prim.Native.Nat.{ℕ}
 use lib.Dec.{eqb}
 use Rattle.lists.specs.Lists.{if_then_else_}
 use Rattle.model.specs.Refusals.{Refusal, nothing, refused}
-use Rattle.combination.specs.declared.Found.{Found}
+use Rattle.judging.specs.declared.Found.{Found}
 use Rattle.judging.specs.declared.Checked.{Checked}
 use Rattle.judging.specs.declared.Checked.the-variants.{Accepted, Refused}
 

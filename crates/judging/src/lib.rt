@@ -1,7 +1,12 @@
-// What the checker answers to what is found in all combinations.
-use combination::Found;
+// What is found in one combination or in all, and what the checker answers to it.
 ghost use mathlib.Core.Path.{_≡_};
 ghost use Rattle.judging.specs.Judging.{judged-by};
+
+// What is found in one combination, or in all: the first of refusals 14 to 19 that applies, 20 if none does, and the delay.
+pub struct Found {
+    pub first: u32,
+    pub delay: u32,
+}
 
 // What the checker answers: accepted, or the number of the first refusal that applies.
 pub enum Checked {

@@ -1,7 +1,7 @@
 // The conditions of a column of a table's line, stored from a place on in lent bytes that have room for it.
-use store::put_digit;
-use store::put_labelled;
 use store::put_word;
+use store_numbers::put_digit;
+use store_numbers::put_labelled;
 ghost use Prim.Native.Nat.{_^_, _≤_, _<_};
 ghost use Rattle.text.specs.Put.{Put};
 ghost use Rattle.store.specs.Fits.{Fits};

@@ -1,12 +1,12 @@
 // How many bytes a listing needs, counted line by line with no store: each function takes a room, and answers what its text leaves of it,
 // or 0 where the text needs more. Nothing is counted where the lent bytes suffice for any listing of as many words.
 ghost use mathlib.Core.Path.{_≡_};
-ghost use mathlib.Core.Bool.{true};
 ghost use Prim.Native.Nat.{_-_, _≤_};
 ghost use lib.Dec.{ltb};
 ghost use lib.ListN.{length};
 ghost use Rattle.model.specs.Text.{text, decimal};
-ghost use Rattle.listing_parts.specs.Parts.{most-bytes, value-at, values-from, start-of, item-of, entry-of, entries-text, frame-of, frames-text, listing-of};
+ghost use Rattle.listing_parts.specs.Parts.{value-at, values-from, start-of, item-of, entry-of, entries-text, frame-of, frames-text, listing-of};
+ghost use Rattle.listing_count.specs.Ample.{ample};
 
 // What is left of a room that n bytes are taken from.
 fn less(room: usize, n: usize) -> usize
@@ -197,10 +197,10 @@ fn frames_room(room: usize, frames: &[u32]) -> usize
     left
 }
 
-// The lent bytes suffice for any listing of so many words, for a plan of at most six conditions: an entry's line has at most 120 bytes, a frame's at most 56,
-// the first two lines at most 39. Where this answers no they may suffice all the same.
+// The lent bytes suffice for any listing of so many words, at most a million of each kind, for a plan of at most six conditions: an entry's line has at most 120
+// bytes, a frame's at most 56, the first two lines at most 39. Where this answers no they may suffice all the same.
 fn suffice(lent: usize, conditions: usize, words: usize, framewords: usize) -> bool
-    ensures { λ r. ⌜ (r ≡ true → (conditions ≤ 6) × (most-bytes words framewords ≤ lent)) ⌝ }
+    ensures { λ r. ⌜ r ≡ ample lent conditions words framewords ⌝ }
 {
     if 6 < conditions {
         return false;

@@ -1,2 +1,2 @@
--- Laws of runs: how the lines of a row begin and end.
+-- Laws of runs: what their lines are, and the next line of one.
 pub mod Laws

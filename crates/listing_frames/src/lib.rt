@@ -1,6 +1,6 @@
 // The lines of the delay, of the pass-over count and of a frame list stored from a place on in lent bytes that have room for them.
-use store::put_labelled;
 use store::put_word;
+use store_numbers::put_labelled;
 ghost use Rattle.text.specs.Put.{Put};
 ghost use Rattle.store.specs.Fits.{Fits};
 ghost use Rattle.listing_parts.specs.Parts.{head-of, frame-of, frames-text};

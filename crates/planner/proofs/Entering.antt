@@ -11,7 +11,7 @@ use Rattle.model.specs.Refusals.{nothing, plan-refusal}
 use Rattle.board.specs.declared.Board.{Board}
 use Rattle.board.specs.Board.{Boarded}
 use Rattle.entries.specs.Numbers.{row-numbers, Readable}
-use Rattle.entries.specs.Words.{Listed}
+use Rattle.entries.specs.Listed.{Listed}
 use Rattle.entries.specs.Logs.{entry-from, Logs}
 use Rattle.entries.proofs.Links.{readable, row-link, words-link, words-count}
 use Rattle.entries.proofs.Keys.{number-back}

@@ -15,7 +15,7 @@ use Rattle.model.specs.Refusals.{nothing, plan-refusal}
 use Rattle.model.specs.Table.{plans, row-entries, passed-by, result, entry-words, frame-words}
 use Rattle.board.specs.declared.Board.{Board}
 use Rattle.board.specs.Board.{Boarded}
-use Rattle.entries.specs.Words.{Laid, table}
+use Rattle.entry_words.specs.Words.{Laid, table}
 use Rattle.frames.specs.Packed.{Rows, Holding, packed-frames, packed-words}
 use Rattle.frames.proofs.Links.{collected-words, collected-small, collected-count}
 use Rattle.courses.specs.declared.Totals.{Totals}

@@ -13,7 +13,7 @@ use Rattle.model.specs.Table.{Answer, turned-down, made, plans, row-entries, re
 use Rattle.board.specs.declared.Board.{Board}
 use Rattle.board.specs.Board.{Boarded}
 use Rattle.entries.specs.Logs.{Logs}
-use Rattle.entries.specs.Words.{Laid, table}
+use Rattle.entry_words.specs.Words.{Laid, table}
 use Rattle.frames.specs.Packed.{packed-entry}
 use Rattle.courses.specs.declared.Totals.{Totals}
 use Rattle.courses.specs.Courses.{Planned-all}

@@ -33,7 +33,7 @@ pub enum Refusal {
 
 // A condition names no process, or one already named.
 fn wrong_deciders(decider: [u32; 6], conditions: usize, processes: usize) -> bool
-    requires { ⌜ conditions ≤ 6 ⌝ ∗ ⌜ processes ≤ 64 ⌝ }
+    requires { ⌜ conditions ≤ 6 ⌝ }
     ensures { λ r. ⌜ r ≡ deciders-test decider conditions processes ⌝ }
 {
     if any_not_below(&decider, conditions, processes) {

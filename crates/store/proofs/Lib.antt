@@ -1,4 +1,3 @@
--- Laws of what is stored: Digits (decimal digits), Halves (a word in two parts), Stored (texts stored one after another).
-pub mod Digits
+-- Laws of what is stored: Halves (a word in two parts), Stored (texts stored one after another).
 pub mod Halves
 pub mod Stored

@@ -5,7 +5,7 @@ use Prim.Native.Nat.{ℕ}
 use native.Mathlib.Omega.{arith}
 use borrow.Author.Needs.{needs}
 use Rattle.plan.specs.Memory.{lines}
-use Rattle.combination.specs.declared.Found.{Found}
+use Rattle.judging.specs.declared.Found.{Found}
 use Rattle.met.specs.Table.{Small}
 use Rattle.combination.specs.Combination.{found-all, Tabled}
 use Rattle.judging.specs.Judging.{judged-by}

@@ -6,7 +6,7 @@ use Prim.Native.Nat.{_≤_, _<_, _-_, max, min}
 use native.Mathlib.Omega.{arith}
 use borrow.Author.Needs.{needs}
 use Rattle.lists.proofs.Greatest.{Most, most-start, most-taken, most-whole}
-use Rattle.combination.specs.declared.Found.{Found}
+use Rattle.judging.specs.declared.Found.{Found}
 use Rattle.combination.specs.Combination.{found-by, found-all}
 use Rattle.combination.proofs.Least.{Fewest, fewest-start, fewest-next, fewest-end}
 use Rattle.combination.proofs.try_all.Statement.{statement}

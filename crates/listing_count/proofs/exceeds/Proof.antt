@@ -1,7 +1,7 @@
 -- `listing_count::exceeds` meets its contract: where any listing of so many words fits, this one does. Otherwise the room is the bytes lent and one more, and it is used up where
 -- the listing needs more.
 -- Assumes nothing.
-use mathlib.Core.Path.{sym}
+use mathlib.Core.Path.{sym, _∙_}
 use native.Mathlib.Omega.{arith}
 use lib.ListN.{length}
 use Prim.Native.Nat.{_+_}
@@ -10,6 +10,7 @@ use Rattle.model.specs.Text.{decimal}
 use Rattle.listing_parts.specs.Parts.{entries-text, frames-text, listing-of}
 use Rattle.listing_parts.proofs.Lengths.{listing-length, used-up}
 use Rattle.listing_parts.proofs.Most.{Ten-digits, listing-most}
+use Rattle.listing_count.proofs.Enough.{ample-enough}
 use borrow.Author.Needs.{needs}
 use Rattle.listing_count.proofs.exceeds.Statement.{statement}
 use Rattle.listing_count.proofs.exceeds.Tie as tie
@@ -19,9 +20,9 @@ suffice-requires c κs = search needs
 
 returns : tie.Need-returns
 returns c =
-    let s = c .before .suffice .ensures (c .if1 .taken) in
     let k = c .before .before in
     let a = c .before .before .before .before .args in
+    let s = ample-enough (a .lent) (a .conditions) (length (a .table .now)) (length (a .frames .now)) (sym (c .before .suffice .ensures) ∙ c .if1 .taken) in
     let table : Ten-digits (a .table .now) = λ i. omega (arith, k .before .shared-slice-known .given i) in
     let frames : Ten-digits (a .frames .now) = λ i. omega (arith, k .shared-slice-known2 .given i) in
     sym (le-ltb (a .lent) (length (listing-of (a .processes) (a .edges) (a .conditions) (a .delay) (a .passed) (a .table .now) (a .frames .now))) (omega (arith, s .1, listing-most (a .processes) (a .edges) (a .conditions) (a .delay) (a .passed) (a .table .now) (a .frames .now) (s .0) (omega arith) (omega arith) table frames)))

@@ -1,21 +1,24 @@
--- `listing_count::suffice` meets its contract: yes is answered only where the most bytes are no more than lent.
+-- `listing_count::suffice` meets its contract: no is answered at the first test that fails.
 -- Assumes nothing.
-use mathlib.Core.Path.{_≡_}
-use Prim.Native.Nat.{ℕ}
 use native.Mathlib.Omega.{arith}
+use borrow.Author.Tests.{le-leb, lt-leb}
 use Rattle.listing_parts.specs.Parts.{most-bytes}
+use Rattle.listing_count.specs.Ample.{ample}
 use borrow.Author.Needs.{needs}
 use Rattle.listing_count.proofs.suffice.Statement.{statement}
 use Rattle.listing_count.proofs.suffice.Tie as tie
 
 returns : tie.Need-returns
-returns c = λ e. absurd (let z : _≡_ {A = ℕ} 0 1 = cc in omega arith)
+unfolding ample
+returns c = let a = c .before .args in rw (lt-leb (a .conditions) 6 (omega arith))
 
 returns-2 : tie.Need-returns-2
-returns-2 c = λ e. absurd (let z : _≡_ {A = ℕ} 0 1 = cc in omega arith)
+unfolding ample
+returns-2 c = let a = c .before .before .args in rw (le-leb (a .conditions) 6 (omega arith), lt-leb (a .words) 1000000 (omega arith))
 
 returns-3 : tie.Need-returns-3
-returns-3 c = λ e. absurd (let z : _≡_ {A = ℕ} 0 1 = cc in omega arith)
+unfolding ample
+returns-3 c = let a = c .before .before .before .args in rw (le-leb (a .conditions) 6 (omega arith), le-leb (a .words) 1000000 (omega arith), lt-leb (a .framewords) 1000000 (omega arith))
 
 mul-if4 : tie.Need-mul-if4
 mul-if4 c = search needs
@@ -30,11 +33,12 @@ add-if4-2 : tie.Need-add-if4-2
 add-if4-2 c = search needs
 
 returns-4 : tie.Need-returns-4
-returns-4 c = λ e. absurd (let z : _≡_ {A = ℕ} 0 1 = cc in omega arith)
+unfolding ample most-bytes
+returns-4 c = let a = c .before .before .before .before .args in rw (le-leb (a .conditions) 6 (omega arith), le-leb (a .words) 1000000 (omega arith), le-leb (a .framewords) 1000000 (omega arith), lt-leb (most-bytes (a .words) (a .framewords)) (a .lent) (omega arith))
 
 returns-5 : tie.Need-returns-5
-unfolding most-bytes
-returns-5 c = λ e. (omega arith, omega arith)
+unfolding ample most-bytes
+returns-5 c = let a = c .before .before .before .before .args in rw (le-leb (a .conditions) 6 (omega arith), le-leb (a .words) 1000000 (omega arith), le-leb (a .framewords) 1000000 (omega arith), le-leb (most-bytes (a .words) (a .framewords)) (a .lent) (omega arith))
 
 pub suffice-spec : {M : Type 1} → statement M
 suffice-spec =

@@ -9,7 +9,8 @@ use Rattle.text.proofs.Puts.{put-length}
 use Rattle.store.specs.Going.{Going}
 use Rattle.store.proofs.Stored.{going-start, going-length, going-fits, going-next, fits-first}
 use Rattle.listing_parts.specs.Parts.{entries-text}
-use Rattle.listing_entries.specs.Runs.{line-at, Alike}
+use Rattle.entry_lines.specs.Lines.{line-at}
+use Rattle.listing_entries.specs.Runs.{Alike}
 use Rattle.listing_entries.proofs.Laws.{run-next}
 use Rattle.listing_entries.proofs.put_lines.Statement.{statement}
 use Rattle.listing_entries.proofs.put_lines.Tie as tie

@@ -4,7 +4,8 @@ use mathlib.Core.Path.{sym, _∙_}
 use native.Mathlib.Omega.{arith}
 use lib.Seq.{length-take-le}
 use Rattle.store.proofs.Stored.{going-start}
-use Rattle.listing_entries.proofs.Laws.{holds-length, run-none}
+use Rattle.entry_lines.proofs.Ends.{holds-length}
+use Rattle.listing_entries.proofs.Laws.{run-none}
 use borrow.Author.Needs.{needs}
 use Rattle.listing_entries.proofs.put_row.Statement.{statement}
 use Rattle.listing_entries.proofs.put_row.Tie as tie

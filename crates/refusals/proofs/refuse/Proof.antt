@@ -149,7 +149,7 @@ returns-3 c =
     sym (passed-3 b ∙ stops 4 (from-5 (lines (plan (past-3 b)))) (sym (test-4 (c .before)) ∙ c .if3 .taken))
 
 wrong-deciders-requires : tie.Need-wrong-deciders-requires
-wrong-deciders-requires c κs = let f = known (past-4 c) .few in (f .conditions, f .processes)
+wrong-deciders-requires c κs = known (past-4 c) .few .conditions
 
 returns-4 : tie.Need-returns-4
 returns-4 c =

@@ -2,7 +2,6 @@
 -- Assumes nothing.
 use mathlib.Core.Path.{sym, _∙_}
 use Rattle.plan.specs.Refusing.{deciders-test}
-use Rattle.array_tests.proofs.Below.{all-small}
 use borrow.Author.Needs.{needs}
 use Rattle.refusals.proofs.wrong_deciders.Statement.{statement}
 use Rattle.refusals.proofs.wrong_deciders.Tie as tie
@@ -21,10 +20,7 @@ slice-aggregate-any-twice : tie.Need-slice-aggregate-any-twice
 slice-aggregate-any-twice c = search needs
 
 any-twice-requires : tie.Need-any-twice-requires
-any-twice-requires c κs =
-    let b = c .before in
-    let a = b .before .before .before .args in
-    (search needs, (search needs, all-small (a .t1) (a .processes) (a .conditions) (search needs) (sym (b .before .any-not-below .ensures) ∙ b .if1 .left)))
+any-twice-requires c κs = search needs
 
 returns-2 : tie.Need-returns-2
 unfolding deciders-test

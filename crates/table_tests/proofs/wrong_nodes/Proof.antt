@@ -4,7 +4,6 @@ use mathlib.Core.Path.{_≡_, sym, _∙_}
 use mathlib.Core.Bool.{true, false}
 use Rattle.lists.specs.Lists.{any, below}
 use Rattle.plan.specs.Refusing.{nodes-test, not-below-at}
-use Rattle.array_tests.proofs.Below.{all-small}
 use borrow.Author.Needs.{needs}
 use Rattle.table_tests.proofs.wrong_nodes.Statement.{statement}
 use Rattle.table_tests.proofs.wrong_nodes.Tie as tie
@@ -32,10 +31,7 @@ returns-2 c =
     rw (slots-pass b, t)
 
 any-twice-requires : tie.Need-any-twice-requires
-any-twice-requires c κs =
-    let b = c .before .before .before .before .before .before .before .before in
-    let a = b .before .before .before .before .before .args in
-    (search needs, (search needs, all-small (a .t1 .node) (a .slots) (a .slots) (search needs) (slots-pass b)))
+any-twice-requires c κs = search needs
 
 returns-3 : tie.Need-returns-3
 unfolding nodes-test
