@@ -16,6 +16,7 @@ use Rattle.lists.proofs.Fill.{each-at, zeros-at}
 use Rattle.model.specs.Listing.{bit}
 use Rattle.readiness.specs.Reading.{came-by, part, edges-into}
 use Rattle.timetable.specs.Bus.{beginning-at}
+use Rattle.timetable.proofs.Beginnings.{beginning-from}
 use Rattle.starting.specs.Starting.{Ends, starts-by}
 use Rattle.starting.specs.Quiet.{Idle, Quiet}
 use Rattle.starting.specs.News.{Soonest}
@@ -39,7 +40,7 @@ use Rattle.event.proofs.Filling.{Filled, left, broadcast, message, fill
 use Rattle.event.proofs.Begun.{Started, as-before, starting, Begun, begun}
 use Rattle.event.proofs.Pending.{came-same, came-grown, Same, pending-same, waiting-same}
 use Rattle.event.proofs.Stirring.{stir-either, stir-long, stir-told, stir-reaches}
-use Rattle.event.proofs.Loops.{beginning-from, next-parts}
+use Rattle.event.proofs.Loops.{next-parts}
 use Rattle.event.proofs.Attending.{Attended, attended, event-same, Chosen, nobody, somebody, serves-chosen}
 
 -- a choice by whether a node is the number of slots

@@ -1,16 +1,15 @@
 -- What the loops of the code rest on: the slot of a node that is nearer, what a slot leaves of the bus, and what one event leaves of all.
 -- Assumes nothing.
-use Prim.Native.Nat.{ℕ, zero, suc, _+_, _-_, _%_, _≤_, _<_}
+use Prim.Native.Nat.{ℕ, zero, suc, _+_, _-_, _≤_, _<_}
 use mathlib.Core.Path.{_≡_, refl, _∙_}
 use mathlib.Core.Bool.{Bool, true, false}
 use mathlib.Core.List.{List, [], _∷_}
-use native.Mathlib.Nat.{mod-le, mod-lt}
 use native.Mathlib.Omega.{arith}
-use lib.Dec.{eqb, leb}
+use lib.Dec.{eqb}
 use lib.ListN.{length, getD, set, length-set}
-use borrow.Author.Tests.{le-leb, lt-leb, leb-true}
+use borrow.Author.Tests.{le-leb, lt-leb}
 use Rattle.lists.specs.Lists.{if_then_else_}
-use Rattle.timetable.specs.Bus.{beginning-at}
+use Rattle.timetable.proofs.Beginnings.{beginning-from}
 use Rattle.slot_items.specs.Packing.{Load}
 use Rattle.board.specs.declared.Board.{Board}
 use Rattle.clocks.specs.Clocks.{come-by}
@@ -56,15 +55,6 @@ filled-long n end l t s = at (l .short)
     at : (q : Bool) → length (if q then set (s .passed) n (getD (s .passed) n 0 + 1) else s .passed) ≡ length (s .passed)
     at true = length-set (s .passed) n (getD (s .passed) n 0 + 1)
     at false = refl
-
--- the first beginning of a slot at or after a tick is not before it
-pub beginning-from : (round offset t : ℕ) → 1 ≤ round → t ≤ beginning-at round offset t
-unfolding beginning-at
-beginning-from round offset t l = at (leb (t % round) offset) refl
-  where
-    at : (q : Bool) → leb (t % round) offset ≡ q → t ≤ (t - t % round) + (if q then offset else round + offset)
-    at true e = let z : t % round ≤ offset = leb-true (t % round) offset e in omega (arith, z, mod-le t round)
-    at false e = omega (arith, mod-le t round, mod-lt t l)
 
 module _ (b : Board) (unmet : List ℕ) where
   serves-more : (comes : List ℕ) (m : Moment) (k : ℕ) → getD (serves b unmet comes m .passed) k 0 ≤ getD (m .passed) k 0 + 1

@@ -136,9 +136,10 @@ fn write_all<'a>(
     Planned::Refused(11)
 }
 
-// Plans a plan in which refusals 2 to 9 find nothing. `comes` and `place` are of ones, which are stored by fewer instructions than
-// zeros are (docs/PERFORMANCE.md); none is read before its combination is stored.
-fn plan_accepted(p: Plan, table: &mut [u32], frames: &mut [u32]) -> Planned
+// Plans a plan in which refusals 2 to 9 find nothing, as `plan_table` does after it has tried them. It is pub for a caller that has just read the plan from a text, and
+// so has tried them already. `comes` and `place` are of ones, which are stored by fewer instructions than zeros are (docs/PERFORMANCE.md); none is read before
+// its combination is stored.
+pub fn plan_accepted(p: Plan, table: &mut [u32], frames: &mut [u32]) -> Planned
     requires { ⌜ plan-refusal (lines p) ≡ nothing ⌝ }
     ensures { λ r. ⌜ Answers (lines p) r (now (table .entry)) (now (frames .entry)) (now (table .exit)) (now (frames .exit)) ⌝ }
 {

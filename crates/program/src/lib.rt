@@ -5,11 +5,12 @@ use listing::write_refusal;
 use plan::Plan;
 use plan_reader::read_plan;
 use planner::Planned;
-use planner::plan_table;
+use planner::plan_accepted;
 use refusals::Refusal;
 ghost use mathlib.Core.Path.{_≡_};
 ghost use Prim.Native.Nat.{_≤_};
 ghost use lib.ListN.{length};
+ghost use Rattle.model.specs.Refusals.{nothing, plan-refusal};
 ghost use Rattle.model.specs.Table.{plan-answer};
 ghost use Rattle.model.specs.Listing.{printed};
 ghost use Rattle.model.specs.Text.{bytes-after};
@@ -17,12 +18,13 @@ ghost use Rattle.plan.specs.Memory.{lines};
 ghost use Rattle.listing.specs.Answer.{answer-of, written-of};
 ghost use Rattle.program.specs.Prints.{Prints, Prints-all};
 
-// Plans a plan into lent words, and writes its listing, or the line of its refusal, to the front of lent bytes.
+// Plans a plan in which refusals 2 to 9 find nothing into lent words, and writes its listing, or the line of refusal 10 or 11, to the front of lent bytes.
 fn print_planned(p: Plan, table: &mut [u32], frames: &mut [u32], out: &mut [u8]) -> Listed
+    requires { ⌜ plan-refusal (lines p) ≡ nothing ⌝ }
     ensures answer { λ r. ⌜ r ≡ answer-of (written-of (length (now (out .entry))) (printed (lines p) (plan-answer (lines p) (length (now (table .entry))) (length (now (frames .entry)))))) ⌝ }
     ensures bytes { λ r. ⌜ now (out .exit) ≡ bytes-after (written-of (length (now (out .entry))) (printed (lines p) (plan-answer (lines p) (length (now (table .entry))) (length (now (frames .entry)))))) (now (out .entry)) ⌝ }
 {
-    let planned = plan_table(p, table, frames);
+    let planned = plan_accepted(p, table, frames);
     match planned {
         Planned::Refused(n) => write_refusal(n, out),
         Planned::Made(m) => {

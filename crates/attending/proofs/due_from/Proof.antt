@@ -4,8 +4,8 @@ use mathlib.Core.Path.{ap}
 use Prim.Native.Nat.{ℕ, _+_}
 use native.Mathlib.Omega.{arith}
 use borrow.Author.Needs.{needs}
+use Rattle.timetable.proofs.Beginnings.{beginning-most}
 use Rattle.attending.specs.Attending.{due-from}
-use Rattle.attending.proofs.Beginnings.{beginning-most}
 use Rattle.attending.proofs.due_from.Statement.{statement}
 use Rattle.attending.proofs.due_from.Tie as tie
 

@@ -3,6 +3,7 @@
 use Prim.Native.Nat.{ℕ}
 use lib.ListN.{length-replicate}
 use borrow.Author.Needs.{needs}
+use Rattle.plan_reader.proofs.Told.{accepted}
 use Rattle.program.proofs.Reading.{refused-prints, read-prints}
 use Rattle.program.proofs.print_plan.Statement.{statement}
 use Rattle.program.proofs.print_plan.Tie as tie
@@ -26,7 +27,9 @@ slice-aggregate-print-planned-2 : tie.Need-slice-aggregate-print-planned-2
 slice-aggregate-print-planned-2 c = search needs
 
 print-planned-requires : tie.Need-print-planned-requires
-print-planned-requires c κs = search needs
+print-planned-requires c κs =
+    let r = c .before .before .before .before .before .before .read-plan in
+    accepted _ (r .result) (r .ensures .0) (c .before .before .before .before .enum-told .given .1)
 
 same-length : tie.Need-same-length
 same-length c = search needs
