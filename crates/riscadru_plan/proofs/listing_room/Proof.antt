@@ -6,7 +6,7 @@ use Rattle.riscadru_plan.proofs.listing_room.Statement.{statement}
 use Rattle.riscadru_plan.proofs.listing_room.Tie as tie
 
 returns : tie.Need-returns
-returns c = length-replicate {A = ℕ} 388100 0
+returns c = length-replicate {A = ℕ} _ 0
 
 pub listing-room-spec : {M : Type 1} → statement M
 listing-room-spec = tie.close (tie.spec returns)
