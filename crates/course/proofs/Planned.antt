@@ -5,7 +5,7 @@ use Prim.Native.Nat.{ℕ, suc, _+_, _-_, _*_, _≤_, _<_}
 use mathlib.Core.Path.{_≡_, refl, sym, ap, _∙_, subst}
 use mathlib.Core.Logic.{_⊎_, inl, inr}
 use mathlib.Core.Bool.{Bool, true, false}
-use mathlib.Core.List.{List, [], _∷_, List·Memᴰ as In, List·Memᴰ·head as here, List·Memᴰ·tail as there, List·Memᴰ·not-nil as in-none}
+use mathlib.Core.List.{List, List·Memᴰ as In, List·Memᴰ·head as here}
 use native.Mathlib.Omega.{arith}
 use lib.Dec.{eqb, leb}
 use lib.ListN.{length, getD, replicate, length-replicate}
@@ -32,10 +32,6 @@ use Rattle.board.specs.Board.{Boarded}
 use Rattle.event.specs.Course.{last-event, Moment, next, Leads, over, on, from-clock}
 use Rattle.course.proofs.Standing.{past, At}
 use Rattle.course.proofs.Event.{at-next}
-
-one-in : {A : Type 0} {x y : A} → In x (y ∷ []) → x ≡ y
-one-in (here q) = q
-one-in (there m) = absurd (in-none m)
 
 -- planning from a clock on, where no item is under way
 pub from-at : (p : Lines) (c : List Bool) (t : ℕ) (busy comes place passed noted : List ℕ) → Held p (log-at p c t) comes place → Busy p comes busy (suc t) →

@@ -52,9 +52,6 @@ module _ (b : Board) (f : Fits b) (unmet : List ℕ) (n u flight told : ℕ) (ro
   abbrev is-told : Bool
   is-told = told-in (b .processes) (b .tell) (b .conditions) (b .decider) (b .node) (b .bytes) (b .lasts) (b .rooms) n u rows place
 
-  abbrev filled-queue : Bus
-  filled-queue = fill-by (b .processes) (b .tell) (b .conditions) (b .decider) (b .node) (b .queuefirst) (b .queue) (b .from) (b .cue) unmet (b .bytes) (b .lasts) (b .rooms) n u start
-
   late : u < end
   late = omega (arith, f .lasts-one n o)
 

@@ -33,9 +33,9 @@ use Rattle.laws.proofs.Rows.{Kind, a-process, an-edge, a-condition, kind, edge-
 use Rattle.laws.proofs.Rules.{Item, Kept}
 use Rattle.laws.proofs.Safety.{planning-keeps}
 use Rattle.laws.proofs.Slots.{one-slot-a-tick, slot-in}
-use Rattle.frames.specs.Packed.{in-order, entry-frame, row-frames, packed-frames, packed-words, items, item-frame, packed-entry, frame-from, Holding}
+use Rattle.frames.specs.Packed.{in-order, entry-frame, row-frames, packed-frames, packed-words, items, item-frame, packed-entry, Holding}
 use Rattle.frames.proofs.Writing.{length-words}
-use Rattle.frames.proofs.Numbers.{Fitting, in-order-in, items-frames, items-words}
+use Rattle.frames.proofs.Numbers.{Fitting, in-order-in, items-words}
 
 -- an entry whose columns and place fit its number
 pub record Small (e : Entry) : Type 0 where
@@ -108,10 +108,7 @@ module _ (p : Lines) (fine : plan-refusal p ≡ nothing) where
             sym (a .2) ∙ ap (λ (s : Slot). s .node) (one-slot-a-tick p g (a .0) (b .0) (a .1) (b .1) (f .tick) (subst (λ (k : ℕ). begins p (a .0 .node) k ≡ true) t (a .3)) (b .3)) ∙ b .2;
       }
 
-  -- Of the planner's own table the items' frames as numbers, put in order, are the frame list, and the words are its words.
-  pub frames-link : map frame-from (in-order (map (item-frame p) (items p (result p .entries))) []) ≡ frames p (result p .entries)
-  frames-link = items-frames p (result p .entries) fitting
-
+  -- Of the planner's own table the words of the items' frames as numbers, put in order, are those of the frame list.
   pub words-link : packed-words (in-order (map (item-frame p) (items p (result p .entries))) []) ≡ frame-words (frames p (result p .entries))
   words-link = items-words p (result p .entries) fitting
 
@@ -219,11 +216,6 @@ module _ (p : Lines) (fine : plan-refusal p ≡ nothing) (list ends node bytes :
   numbers-items : numbers ≡ in-order (map (item-frame p) (items p (result p .entries))) []
   unfolding result
   numbers-items = packed-link p (row-entries p (plans p)) list ends node bytes h (row-of p) (λ q l u e m. item-sent p fine e (row-item q l u e m) .small)
-
-  -- What is collected is the frame list.
-  pub collected-frames : map frame-from numbers ≡ result p .frames
-  unfolding result
-  collected-frames = ap (map frame-from) numbers-items ∙ frames-link p fine
 
   -- What is written are its words.
   pub collected-words : packed-words numbers ≡ frame-words (result p .frames)

@@ -10,7 +10,7 @@ use native.Mathlib.Omega.{arith}
 use lib.Dec.{eqb}
 use lib.ListN.{length, getD}
 use borrow.Author.Tests.{eqb-true, eq-eqb}
-use Rattle.lists.specs.Lists.{any, all, if_then_else_, keep, null, each, upfrom, below, first}
+use Rattle.lists.specs.Lists.{any, all, if_then_else_, keep, each, upfrom, below, first}
 use Rattle.lists.proofs.Tests.{same-test, or-right, or-assoc, or-cross, clash, both, join, either, or-left, is-false, two, or-map}
 
 module _ {A : Type 0} where
@@ -61,10 +61,6 @@ module _ {A : Type 0} where
 
   pub none-at : (f : A → Bool) (xs : List A) (i : ℕ) (d : A) → any f xs ≡ false → i < length xs → f (getD xs i d) ≡ false
   none-at f xs i d h l = none-in f h (in-getD xs i d l)
-
-  pub null-in : (xs : List A) {x : A} → In x xs → null xs ≡ false
-  null-in [] m = absurd (in-none m)
-  null-in (x ∷ xs) m = refl
 
 module _ {A B : Type 0} where
   pub in-map : (f : A → B) {x : A} {xs : List A} → In x xs → In (f x) (map f xs)

@@ -9,7 +9,6 @@ use Prim.Native.Nat.{ℕ, suc, _+_, _^_, _≤_, _<_}
 use native.Mathlib.Omega.{arith}
 use lib.Dec.{eqb, ltb}
 use lib.ListN.{length, getD, length-map}
-use lib.Pow.{pow-mono}
 use borrow.Author.Tests.{eqb-true, eq-eqb, ltb-true, ltb-false}
 use Rattle.lists.specs.Lists.{if_then_else_, any, keep, below}
 use Rattle.lists.proofs.Tests.{two}
@@ -120,15 +119,6 @@ module _ (p : Lines) (h : plan-refusal p ≡ nothing) (words : List ℕ) (f : an
     unfolding met-rows
     place-most r = rw (at-row placed r) (left-most placed 63 (of-row M r) 0 (λ e m x. in-form e (row-in-table r e m) .place-most) (omega arith))
 
-    pub known-most : (r : ℕ) → getD (met-rows words c (b .span) .known) r 0 ≤ 63
-    unfolding met-rows
-    known-most r =
-        rw (at-row column r)
-        (left-most column 63 (of-row M r) 0
-        (λ e m x.
-        let few : 2 ^ length (p .conditions) ≤ 2 ^ 6 = pow-mono (g .few-conditions) in
-        omega (arith, in-form e (row-in-table r e m) .known-few)) (omega arith))
-
     -- refusal 14 in one combination
     count-same : (r : ℕ) → r < rows p → differs-at (A .count) (due-of b c) r ≡ miscounted p C (met-log es C) r
     unfolding differs-at miscounted met-rows
@@ -142,15 +132,6 @@ module _ (p : Lines) (h : plan-refusal p ≡ nothing) (words : List ℕ) (f : an
     miscounts-link =
         ap (λ (n : ℕ). any (differs-at (A .count) (due-of b c)) (below n)) (bd .row-count)
         ∙ any-same (differs-at (A .count) (due-of b c)) (miscounted p C (met-log es C)) (below (rows p)) (λ r m. count-same r (below-in (rows p) m))
-
-    -- a row that is over at some clock has a met entry
-    pub row-met : (r : ℕ) → (getD (met-rows words c (b .span) .comes) r 0 ≡ 0 → ⊥) → (e : Entry) × In e (met-entries (entries-of words) (getD (combinations p) c [])) × (e .row ≡ r)
-    unfolding met-rows
-    row-met r n = at (of-row M r) refl
-      where
-        at : (xs : List Entry) → of-row M r ≡ xs → (e : Entry) × In e M × (e .row ≡ r)
-        at [] q = absurd (n (at-row (ends (b .span)) r ∙ ap (λ (xs : List Entry). left-by (ends (b .span)) xs 0) q))
-        at (e ∷ xs) q = let k = first-in r e xs q in (e, k .0, k .1)
 
     -- where each row is met as often as it is due
     module _ (once : not-once p (entries-of words) (getD (combinations p) c []) ≡ false) where

@@ -52,10 +52,6 @@ module _ (p : Lines) (log : Log) (comes place : List ℕ) (x : Placed) (h : Held
   abbrev end : ℕ
   end = suc (x .tick + span p (full-ticks p) (x .row))
 
-  -- the rows of the longer log
-  of-row-put : (r : ℕ) → of-row (x ∷ log) r ≡ if eqb (x .row) r then (x ∷ of-row log r) else of-row log r
-  of-row-put r = refl
-
   row-put : (places : List ℕ) → getD places (x .row) 0 ≡ x .place → ((r : ℕ) → (x .row ≡ r → ⊥) → getD places r 0 ≡ getD place r 0) →
       (r : ℕ) → Row p (x ∷ log) r (getD (set comes (x .row) end) r 0) (getD places r 0)
   row-put places here there r = at (eqb (x .row) r) refl

@@ -5,8 +5,7 @@ use mathlib.Core.List.{List, [], _∷_, _++_, append-nil}
 use Prim.Native.Nat.{ℕ, suc, _+_, _*_, _/_, _%_, _<_, _^_}
 use native.Mathlib.Nat.{div-div-eq-div-mul, mod-eq-of-lt}
 use native.Mathlib.Omega.{arith}
-use lib.ListN.{length, getD, take, drop, length-take}
-use lib.Seq.{getD-take}
+use lib.ListN.{length, getD, drop}
 use Rattle.lists.specs.Front.{front}
 use Rattle.model.specs.Firmware.{words-of}
 use Rattle.words.specs.Bytes.{word-bytes, bytes-of}
@@ -16,10 +15,6 @@ use Rattle.words.proofs.Writing.{bytes-count}
 -- numbers that words of 32 bits hold
 abbrev pub Words : List ℕ → Type 0
 Words words = (i : ℕ) → i < length words → getD words i 0 < 2 ^ 32
-
--- the first n of such numbers
-pub first-words : (n : ℕ) (words : List ℕ) → Words words → Words (take n words)
-first-words n words s i l = rw (getD-take n words i 0 (omega (arith, length-take n words))) (s i (omega (arith, length-take n words)))
 
 -- a word is its lowest byte, and 256 times the others
 lowest : (w : ℕ) → w % 256 + 256 * (w / 256) ≡ w

@@ -4,7 +4,6 @@ use mathlib.Core.Path.{_≡_, sym, ap, _∙_, subst}
 use mathlib.Core.List.{List}
 use Prim.Native.Nat.{ℕ, _+_, _≤_, _<_}
 use native.Mathlib.Omega.{arith}
-use borrow.Author.Needs.{needs}
 use Rattle.plan.specs.Refusing.{at}
 use Rattle.line_arrays.specs.Lined.{cues-by-edge}
 use Rattle.row_arrays.specs.Rowed.{spans-by-row}
