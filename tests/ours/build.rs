@@ -7,12 +7,12 @@ fn main() {
     println!("cargo:rustc-check-cfg=cfg(have_archive)");
     let root = PathBuf::from(std::env::var("CARGO_MANIFEST_DIR").unwrap());
     let folder = root.join("../../target/staticlib");
-    let archive = folder.join("libcapi.a");
+    let archive = folder.join("libc_interface.a");
     println!("cargo:rerun-if-changed={}", archive.display());
     if archive.exists() {
         println!("cargo:rustc-cfg=have_archive");
         println!("cargo:rustc-link-search=native={}", folder.display());
-        println!("cargo:rustc-link-lib=static=capi");
+        println!("cargo:rustc-link-lib=static=c_interface");
     }
     println!("cargo:rustc-check-cfg=cfg(have_program)");
     let program = root.join("../../target/bin/riscadru_plan");

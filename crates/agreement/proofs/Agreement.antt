@@ -11,13 +11,13 @@ use Rattle.plan.specs.Memory.{lines}
 use Rattle.planner.specs.declared.Made.{Made}
 use Rattle.planner.specs.declared.Planned.the-variants as planned
 use Rattle.planner.specs.Planner as planner
-use Rattle.planner.proofs.Sound.{given-sound}
-use Rattle.judging.specs.declared.Checked.the-variants.{Accepted}
-use Rattle.judging.specs.Judging.{answer-of}
-use Rattle.checker.proofs.Sound.{accepted-sound}
+use Rattle.planner.proofs.PlannedSound.{given-sound}
+use Rattle.checker.specs.declared.verdict.Checked.the-variants.{Accepted}
+use Rattle.checker.specs.Verdict.{answer-of}
+use Rattle.checker.proofs.AcceptedSound.{accepted-sound}
 
--- For every plan in memory and all words lent: where the planner's answer is `Made(m)`, the checker's answer to the first `m.words` words that stand in the
--- table afterwards, with the delay `m.delay` stated, is `Accepted`.
+-- For every plan in memory and all words lent: where the planner's answer is `Made(m)`, the checker's answer to the
+-- first `m.words` words that stand in the table afterwards, with the delay `m.delay` stated, is `Accepted`.
 pub planned-accepted : (p : Plan) (table frames : List ℕ) (m : Made) → planned.Made m ≡ planner.answer-of (plan-answer (lines p) (length table) (length frames)) →
     answer-of (check (lines p) (take (m .words) (table-after (plan-answer (lines p) (length table) (length frames)) table)) (m .delay)) ≡ Accepted
 planned-accepted p table frames m e =

@@ -1,72 +1,11 @@
-// The checker: a plan in memory, the words of a start table and the delay stated for it in; accepted, or the number of the first refusal that
-// applies, out. It tries 2 to 9 on the plan, 12 and 13 on the words, then 14 to 19 in every combination, and 20 on the stated delay.
-use board::of_plan;
-use combination::try_all;
-use formed::ill_formed;
-use judging::Checked;
-use judging::judged;
-use mask::combinations_of;
-use plan::Plan;
-use refusals::Refusal;
-use refusals::refuse;
-ghost use mathlib.Core.Path.{_≡_};
-ghost use Prim.Native.Nat.{_+_, _%_, _≤_};
-ghost use lib.ListN.{length};
-ghost use Rattle.lists.specs.Lists.{any};
-ghost use Rattle.model.specs.Refusals.{nothing, plan-refusal};
-ghost use Rattle.model.specs.Table.{entries-of};
-ghost use Rattle.model.specs.Checking.{table-refusal, check};
-ghost use Rattle.plan.specs.Memory.{lines};
-ghost use Rattle.judging.specs.Judging.{answer-of};
-ghost use Rattle.formed.specs.Formed.{ill-formed-by};
+// The table checker: refusals 12 to 20 on any plan, words and stated delay.
+// Document 01: "A table is sound, for a plan in which 2 to 9 find nothing and a stated delay, when 12 to 20 find
+// nothing."
+mod combinations;
+mod first_refusal;
+mod table;
+mod verdict;
 
-// Refusal 13: some entry has no such row, is a local edge's, has known bits without condition, value bits outside the known, a tick above
-// 999,999,999, a place above 63, or a process's place not 0. `combinations` is how many combinations there are.
-fn some_ill_formed<'a>(
-    table: &'a [u32],
-    processes: usize,
-    tell: usize,
-    rows: usize,
-    combinations: u32,
-    remote: &'a [u32; 128],
-) -> bool
-    requires { ⌜ (length (now table) % 5 ≡ 0) × (tell ≤ processes + 128) ⌝ }
-    ensures { λ r. ⌜ r ≡ any (ill-formed-by processes tell rows combinations (now (remote .entry))) (entries-of (now (table .entry))) ⌝ }
-{
-    let mut at: usize = 0;
-    while at < table.len() {
-        if ill_formed(table, at, processes, tell, rows, combinations, remote) {
-            return true;
-        }
-        at += 5;
-    }
-    false
-}
-
-// Checks a table and any stated delay for a plan in which refusals 2 to 9 find nothing. It is pub for the crate check_bytes.
-pub fn check_words(p: Plan, table: &[u32], delay: u64) -> Checked
-    requires { ⌜ plan-refusal (lines p) ≡ nothing ⌝ }
-    ensures { λ r. ⌜ r ≡ answer-of (table-refusal (lines p) (now (table .entry)) delay) ⌝ }
-{
-    if table.len() % 5 != 0 {
-        return Checked::Refused(12);
-    }
-    let b = of_plan(p);
-    let combinations = combinations_of(b.conditions);
-    let remote = b.remote;
-    if some_ill_formed(table, b.processes, b.tell, b.rows, combinations, &remote) {
-        return Checked::Refused(13);
-    }
-    judged(try_all(b, table, combinations), delay)
-}
-
-// Checks any words as a start table, five words to an entry, with any delay stated for it, for any plan in memory.
-pub fn check_table(p: Plan, table: &[u32], delay: u64) -> Checked
-    ensures { λ r. ⌜ r ≡ answer-of (check (lines p) (now (table .entry)) delay) ⌝ }
-{
-    let refusal = refuse(p);
-    match refusal {
-        Refusal::Refused(n) => Checked::Refused(n),
-        Refusal::Nothing => check_words(p, table, delay),
-    }
-}
+pub use table::check_table;
+pub use table::check_words;
+pub use verdict::Checked;

@@ -1,4 +1,5 @@
--- What specs/One.antt and specs/Two.antt take of each function is what its contract in the code says, and the contract asks nothing of a caller.
+-- What specs/One.antt and specs/Two.antt take of each function is what its contract in the code says, and the contract
+-- asks nothing of a caller.
 -- Assumes nothing.
 use Prim.Native.Nat.{ℕ, _*_}
 use mathlib.Core.Path.{_≡_}
@@ -15,24 +16,24 @@ use Rattle.model.specs.Checking.{check}
 use Rattle.model.specs.Lookup.{lookup, row-start, row-length, row-part}
 use Rattle.model.specs.Firmware.{words-of, Answers-lookup}
 use Rattle.plan.specs.Memory.{lines}
-use Rattle.refusals.specs.Refusing.{refusal-of}
-use Rattle.plan_reader.specs.Answer.{reading-of, Emptied}
-use Rattle.plan_writer.specs.Answer as writer
+use Rattle.plan_refusals.specs.Answer.{refusal-of}
+use Rattle.text_reader.specs.Answer.{reading-of, Emptied}
+use Rattle.text_writer.specs.Answer as writer
 use Rattle.planner.specs.Planner as planner
 use Rattle.listing.specs.Answer as listing
 use Rattle.program.specs.Prints.{Prints}
-use Rattle.judging.specs.Judging as checker
-use Rattle.entry_search.specs.Finding.{found-of}
-use Rattle.check_text.specs.Checks.{Checks}
-use Rattle.copy_text.specs.Copy.{Copies}
-use Rattle.listing_number.specs.Listing.{Lists}
-use Rattle.capi.specs.Tables.{Tables}
-use Rattle.refusals.proofs.refuse.Reads as the-refuse
-use Rattle.refusals.proofs.refuse.Kinds as the-refuse-kinds
-use Rattle.plan_reader.proofs.read_plan.Reads as the-read
-use Rattle.plan_reader.proofs.read_plan.Kinds as the-read-kinds
-use Rattle.plan_writer.proofs.write_plan.Reads as the-write
-use Rattle.plan_writer.proofs.write_plan.Kinds as the-write-kinds
+use Rattle.checker.specs.Verdict as checker
+use Rattle.kernel.specs.Finding.{found-of}
+use Rattle.c_check.specs.Checks.{Checks}
+use Rattle.c_text.specs.Copy.{Copies}
+use Rattle.c_text.specs.Listing.{Lists}
+use Rattle.c_interface.specs.Tables.{Tables}
+use Rattle.plan_refusals.proofs.refuse.Reads as the-refuse
+use Rattle.plan_refusals.proofs.refuse.Kinds as the-refuse-kinds
+use Rattle.text_reader.proofs.read_plan.Reads as the-read
+use Rattle.text_reader.proofs.read_plan.Kinds as the-read-kinds
+use Rattle.text_writer.proofs.write_plan.Reads as the-write
+use Rattle.text_writer.proofs.write_plan.Kinds as the-write-kinds
 use Rattle.planner.proofs.plan_table.Reads as the-plan
 use Rattle.planner.proofs.plan_table.Kinds as the-plan-kinds
 use Rattle.listing.proofs.write_listing.Reads as the-list
@@ -45,41 +46,42 @@ use Rattle.checker.proofs.check_table.Reads as the-check
 use Rattle.checker.proofs.check_table.Kinds as the-check-kinds
 use Rattle.kernel.proofs.lookup.Reads as the-lookup
 use Rattle.kernel.proofs.lookup.Kinds as the-lookup-kinds
-use Rattle.row_query.proofs.row_entries.Reads as the-row
-use Rattle.row_query.proofs.row_entries.Kinds as the-row-kinds
-use Rattle.capi.proofs.riscadru_copy_plan.Reads as the-c-copy
-use Rattle.capi.proofs.riscadru_copy_plan.Kinds as the-c-copy-kinds
-use Rattle.capi.proofs.planning.riscadru_plan_table.Reads as the-c-plan
-use Rattle.capi.proofs.planning.riscadru_plan_table.Kinds as the-c-plan-kinds
-use Rattle.capi.proofs.planning.riscadru_plan_listing.Reads as the-c-print
-use Rattle.capi.proofs.planning.riscadru_plan_listing.Kinds as the-c-print-kinds
-use Rattle.capi.proofs.checking.riscadru_check_table.Reads as the-c-check
-use Rattle.capi.proofs.checking.riscadru_check_table.Kinds as the-c-check-kinds
-use Rattle.capi.proofs.lookup.riscadru_lookup.Reads as the-c-lookup
-use Rattle.capi.proofs.lookup.riscadru_lookup.Kinds as the-c-lookup-kinds
-use Rattle.capi.proofs.lookup.riscadru_row_start.Reads as the-c-row-start
-use Rattle.capi.proofs.lookup.riscadru_row_start.Kinds as the-c-row-start-kinds
-use Rattle.capi.proofs.lookup.riscadru_row_length.Reads as the-c-row-length
-use Rattle.capi.proofs.lookup.riscadru_row_length.Kinds as the-c-row-length-kinds
+use Rattle.kernel_rows.proofs.row_entries.Reads as the-row
+use Rattle.kernel_rows.proofs.row_entries.Kinds as the-row-kinds
+use Rattle.c_interface.proofs.riscadru_copy_plan.Reads as the-c-copy
+use Rattle.c_interface.proofs.riscadru_copy_plan.Kinds as the-c-copy-kinds
+use Rattle.c_interface.proofs.planning.riscadru_plan_table.Reads as the-c-plan
+use Rattle.c_interface.proofs.planning.riscadru_plan_table.Kinds as the-c-plan-kinds
+use Rattle.c_interface.proofs.planning.riscadru_plan_listing.Reads as the-c-print
+use Rattle.c_interface.proofs.planning.riscadru_plan_listing.Kinds as the-c-print-kinds
+use Rattle.c_interface.proofs.checking.riscadru_check_table.Reads as the-c-check
+use Rattle.c_interface.proofs.checking.riscadru_check_table.Kinds as the-c-check-kinds
+use Rattle.c_interface.proofs.lookup.riscadru_lookup.Reads as the-c-lookup
+use Rattle.c_interface.proofs.lookup.riscadru_lookup.Kinds as the-c-lookup-kinds
+use Rattle.c_interface.proofs.lookup.riscadru_row_start.Reads as the-c-row-start
+use Rattle.c_interface.proofs.lookup.riscadru_row_start.Kinds as the-c-row-start-kinds
+use Rattle.c_interface.proofs.lookup.riscadru_row_length.Reads as the-c-row-length
+use Rattle.c_interface.proofs.lookup.riscadru_row_length.Kinds as the-c-row-length-kinds
 
--- A function with parameters of the kinds `ps` and a result of the kind `r`. For the values `a` that a call is handed, its result `z` and what is lent at its end
--- `e`, `Learnt` is what a caller learns from the function's `ensures`, and `Asked` what its `requires` asks of a caller.
+-- A function with parameters of the kinds `ps` and a result of the kind `r`. For the values `a` that a call is handed,
+-- its result `z` and what is lent at its end `e`, `Learnt` is what a caller learns from the function's `ensures`, and
+-- `Asked` what its `requires` asks of a caller.
 pub record Contract {n : ℕ} (ps : List (PK n)) (r : RK n) (Asked : In n ps) (Learnt Said : Out n ps r) : Type 0 where
   pub asks-nothing : (κs : Lfts n) (a : Dens κs ps) → Asked κs a
   pub says : (κs : Lfts n) (a : Dens κs ps) (z : resT r κs .Denot) (e : AtExit (endedOf n ps r) κs) → Learnt κs a z e → Said κs a z e
 
--- `refusals::refuse`
+-- `plan_refusals::refuse`
 pub refusing : Contract the-refuse-kinds.ps the-refuse-kinds.r the-refuse.Asked the-refuse.Learnt (λ κs a z e.
     refusal-of z ≡ plan-refusal (lines (a .0)))
 refusing = record { asks-nothing = λ κs a. tt; says = λ κs a z e h. h }
 
--- `plan_reader::read_plan`
+-- `text_reader::read_plan`
 pub reading : Contract the-read-kinds.ps the-read-kinds.r the-read.Asked the-read.Learnt (λ κs a z e.
     (Answers-text (a .0 .now) (reading-of z))
     × (Emptied z))
 reading = record { asks-nothing = λ κs a. tt; says = λ κs a z e h. (h .0, h .1) }
 
--- `plan_writer::write_plan`
+-- `text_writer::write_plan`
 pub writing : Contract the-write-kinds.ps the-write-kinds.r the-write.Asked the-write.Learnt (λ κs a z e.
     (z ≡ writer.answer-of (write-plan (lines (a .0)) (length (a .1 .0 .now))))
     × (e .1 .0 .now ≡ bytes-after (write-plan (lines (a .0)) (length (a .1 .0 .now))) (a .1 .0 .now)))
@@ -119,7 +121,7 @@ pub looking-up : Contract the-lookup-kinds.ps the-lookup-kinds.r the-lookup.Aske
     z ≡ found-of (lookup (lines (a .0)) (a .1 .0 .now) (a .1 .1 .0) (a .1 .1 .1 .0) (a .1 .1 .1 .1 .0) (a .1 .1 .1 .1 .1 .0) (a .1 .1 .1 .1 .1 .1 .0)))
 looking-up = record { asks-nothing = λ κs a. tt; says = λ κs a z e h. h }
 
--- `row_query::row_entries`
+-- `kernel_rows::row_entries`
 pub row : Contract the-row-kinds.ps the-row-kinds.r the-row.Asked the-row.Learnt (λ κs a z e.
     z .now ≡ row-part (a .0 .now) (a .1 .0))
 row = record { asks-nothing = λ κs a. tt; says = λ κs a z e h. h .1 }

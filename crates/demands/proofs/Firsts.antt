@@ -1,5 +1,5 @@
--- The model's refusals are the first sentences that apply; to every text one applies first, or none; and an answer that is told by the refusal that applies first
--- keeps to it.
+-- The model's refusals are the first sentences that apply; to every text one applies first, or none; and an answer that
+-- is told by the refusal that applies first keeps to it.
 -- Assumes nothing.
 use Prim.Native.Nat.{ℕ, _-_, _≤_, _<_}
 use mathlib.Core.Path.{_≡_, refl, sym, ap, subst, _∙_}
@@ -15,8 +15,8 @@ use Rattle.model.specs.Refusals.{Refusal, nothing, refused, sentence, or-else, 
 use Rattle.model.specs.Text.{Means, Reading, reads, not-read, after-refusal, Answers-text, too-long, of-no-form, of-form, fitting}
 use Rattle.model.specs.Table.{Result, room-refusal}
 use Rattle.model.specs.Checking.{table-refusal}
-use Rattle.grammar.proofs.Whole.{means-unique}
-use Rattle.grammar.proofs.Answers.{one-answer}
+use Rattle.text_grammar.proofs.Whole.{means-unique}
+use Rattle.text_grammar.proofs.Answers.{one-answer}
 use Rattle.demands.specs.Sentences.{Sentence, first, plan-sentences, bytes-sentences, room-sentences, table-sentences, First-of, First-of-text, exceeds, not-of-the-form, of-lines, Keeps-to, In-number}
 
 -- the sentences of document 01, in its order, are those that the model tries
@@ -93,8 +93,8 @@ module _ (text : List ℕ) (on : Lines → List Sentence) where
   text-one x y (of-lines p m l) (not-of-the-form f) = absurd (f p m)
   text-one x y (of-lines p m l) (of-lines q h k) = ap (λ (z : Lines). first (on z)) (means-unique m h)
 
--- What a text reads as, and the refusal that applies first to it and to what follows 2 to 9: a text that is not read has its refusal, and one that is read
--- has that of what follows.
+-- What a text reads as, and the refusal that applies first to it and to what follows 2 to 9: a text that is not read
+-- has its refusal, and one that is read has that of what follows.
 module _ (text : List ℕ) (more : Lines → List Sentence) (Fits : Reading → Refusal → Type 0) where
   pub by-text : (reading : Reading) → Answers-text text reading → ((n : ℕ) → 1 ≤ n → n ≤ 20 → Fits (not-read n) (refused n)) →
       ((p : Lines) → Means text p → plan-refusal p ≡ nothing → Fits (reads p) (first (more p))) →

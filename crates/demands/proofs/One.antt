@@ -16,31 +16,31 @@ use Rattle.model.specs.Listing.{words-listing, refused-line, printed, program-p
 use Rattle.model.specs.Checking.{table-refusal, check}
 use Rattle.model.specs.Lookup.{unless, lookup}
 use Rattle.model.specs.Lookup as model
-use Rattle.grammar.proofs.Answers.{answers-unique}
+use Rattle.text_grammar.proofs.Answers.{answers-unique}
 use Rattle.program.proofs.Room.{program-fits}
 use Rattle.plan.specs.declared.Plan.{Plan}
 use Rattle.plan.specs.Memory.{lines, empty-plan}
-use Rattle.refusals.specs.declared.Refusal.the-variants as variant
-use Rattle.plan_reader.specs.declared.Read.{Read}
-use Rattle.plan_reader.specs.Answer.{reading-of, Emptied}
-use Rattle.plan_writer.specs.declared.Written.{Written}
-use Rattle.plan_writer.specs.declared.Written.the-variants as written
-use Rattle.plan_writer.specs.Answer as writer
+use Rattle.plan_refusals.specs.declared.sentences.Refusal.the-variants as variant
+use Rattle.text_reader.specs.declared.reader.Read.{Read}
+use Rattle.text_reader.specs.Answer.{reading-of, Emptied}
+use Rattle.text_writer.specs.declared.writer.Written.{Written}
+use Rattle.text_writer.specs.declared.writer.Written.the-variants as written
+use Rattle.text_writer.specs.Answer as writer
 use Rattle.planner.specs.declared.Made.{Made}
 use Rattle.planner.specs.declared.Planned.{Planned}
 use Rattle.planner.specs.declared.Planned.the-variants as planned
 use Rattle.planner.specs.Planner as planner
-use Rattle.listing.specs.declared.Listed.{Listed}
-use Rattle.listing.specs.declared.Listed.the-variants as listed
+use Rattle.listing.specs.declared.writer.Listed.{Listed}
+use Rattle.listing.specs.declared.writer.Listed.the-variants as listed
 use Rattle.listing.specs.Answer as listing
 use Rattle.program.specs.Prints.{Prints}
-use Rattle.judging.specs.declared.Checked.{Checked}
-use Rattle.judging.specs.declared.Checked.the-variants as checked
-use Rattle.judging.specs.Judging as checker
-use Rattle.entry_search.specs.declared.Found.{Found}
-use Rattle.entry_search.specs.declared.Found.the-variants as found
-use Rattle.entry_search.specs.Finding.{found-of}
-use Rattle.listing_number.specs.Listing.{Lists}
+use Rattle.checker.specs.declared.verdict.Checked.{Checked}
+use Rattle.checker.specs.declared.verdict.Checked.the-variants as checked
+use Rattle.checker.specs.Verdict as checker
+use Rattle.kernel.specs.declared.search.Found.{Found}
+use Rattle.kernel.specs.declared.search.Found.the-variants as found
+use Rattle.kernel.specs.Finding.{found-of}
+use Rattle.c_text.specs.Listing.{Lists}
 use Rattle.demands.specs.Sentences.{Sentence, first, plan-sentences, bytes-sentences, room-sentences, table-sentences, First-of, First-of-text, Keeps-to, In-number}
 use Rattle.demands.specs.One.{First-of-printed, Demand-1}
 use Rattle.demands.proofs.Firsts.{plan-first, bytes-first, room-first, table-first, plan-then, text-some, text-one, by-text, Told, keeps, keeps-list, keeps-text}

@@ -16,13 +16,13 @@ use Rattle.model.specs.Checking.{table-refusal}
 use Rattle.model.specs.Lookup.{none, unless, lookup, row-start, row-length}
 use Rattle.model.specs.Lookup as model
 use Rattle.model.specs.Firmware.{words-of, found-number, found-in, Answers-lookup}
-use Rattle.grammar.proofs.Bounds.{print-length}
+use Rattle.text_grammar.proofs.Bounds.{print-length}
 use Rattle.planner.proofs.Most.{entries-cap}
-use Rattle.words.proofs.Reading.{words-count}
-use Rattle.check_text.specs.Checks.{checked-of, checked-number, Checks}
-use Rattle.numbers.specs.Numbers.{written-number}
-use Rattle.copy_text.specs.Copy.{copy, Copies}
-use Rattle.capi.specs.Tables.{planned-of, Puts, Tables}
+use Rattle.c_words.proofs.Reading.{words-count}
+use Rattle.c_check.specs.Checks.{checked-of, checked-number, Checks}
+use Rattle.c_words.specs.Numbers.{written-number}
+use Rattle.c_text.specs.Copy.{copy, Copies}
+use Rattle.c_interface.specs.Tables.{planned-of, Puts, Tables}
 use Rattle.demands.specs.Sentences.{first, plan-sentences, bytes-sentences, room-sentences, table-sentences, First-of-text, Keeps-to, In-number}
 use Rattle.demands.proofs.Firsts.{bytes-first, room-first, table-first, number-listed, by-text, Told, keeps-text, number-refused, number-result}
 use Rattle.demands.proofs.Told.{told-number, told-table, told-turned}

@@ -1,4 +1,5 @@
--- The table that `riscadru_plan_table` writes is one that `riscadru_check_table` accepts, with the delay that stands in the totals.
+-- The table that `riscadru_plan_table` writes is one that `riscadru_check_table` accepts, with the delay that stands in
+-- the totals.
 -- Assumes nothing.
 use Prim.Native.Nat.{ℕ, zero, suc, _+_, _*_, _/_, _^_, _≤_, _<_}
 use mathlib.Core.Path.{_≡_, refl, sym, ap, subst, _∙_}
@@ -18,21 +19,21 @@ use Rattle.model.specs.Text.{Reading, reads}
 use Rattle.model.specs.Table.{Entry, entry-of, known-bits, value-bits, result, entry-words}
 use Rattle.model.specs.Checking.{table-refusal, check}
 use Rattle.model.specs.Firmware.{words-of}
-use Rattle.grammar.proofs.Answers.{answers-unique}
+use Rattle.text_grammar.proofs.Answers.{answers-unique}
 use Rattle.laws.proofs.Entries.{final, entries-in}
 use Rattle.laws.proofs.Good.{good}
 use Rattle.laws.proofs.OwnTable.{own-table-sound}
 use Rattle.laws.proofs.Sound.{sound-iff}
 use Rattle.planner.proofs.Most.{delay-most}
-use Rattle.met.proofs.Column.{Formed, formed}
+use Rattle.checker_rows.proofs.ColumnBits.{Formed, formed}
 use Rattle.laws.proofs.Words.{entries-back}
-use Rattle.words.specs.Bytes.{word-bytes, bytes-of}
-use Rattle.words.proofs.Reading.{words-count, words-at}
-use Rattle.words.proofs.Writing.{bytes-count}
-use Rattle.words.proofs.Back.{Words, words-back}
-use Rattle.plan_bytes.specs.Filled.{totals-of}
-use Rattle.check_text.specs.Checks.{checked-of, checked-number, Checks}
-use Rattle.capi.specs.Tables.{planned-of, Puts, Tables}
+use Rattle.c_words.specs.Bytes.{word-bytes, bytes-of}
+use Rattle.c_words.proofs.Reading.{words-count, words-at}
+use Rattle.c_words.proofs.Writing.{bytes-count}
+use Rattle.c_words.proofs.Back.{Words, words-back}
+use Rattle.c_plan.specs.Filled.{totals-of}
+use Rattle.c_check.specs.Checks.{checked-of, checked-number, Checks}
+use Rattle.c_interface.specs.Tables.{planned-of, Puts, Tables}
 use Rattle.demands.specs.Sentences.{room-sentences}
 use Rattle.demands.specs.Two.{Not-refused, Scheduled-bytes}
 use Rattle.demands.proofs.Firsts.{by-text}
@@ -126,8 +127,9 @@ module _ (text table frames totals table-now frames-now totals-now : List ℕ) (
       ap (λ (z : List ℕ). getD (words-of z) 2 0) (s .total-words) ∙ third _ _ (result p .delay) _ totals (omega (arith, delay-most p fine)) l in
       (λ i. table-refusal p (t i) (d i)) ∙ neither (plan-refusal p) (table-refusal p words (result p .delay)) (own-table-sound p fine) .1
 
-  -- Whatever text and bytes are lent, those for the totals at least twelve: where `riscadru_plan_table` does not refuse, 0 is the answer of `riscadru_check_table` to the
-  -- bytes that it wrote, with the delay that it put into the totals.
+  -- Whatever text and bytes are lent, those for the totals at least twelve: where `riscadru_plan_table` does not
+  -- refuse, 0 is the answer of `riscadru_check_table` to the bytes that it wrote, with the delay that it put into the
+  -- totals.
   pub c-planned-accepted : Tables text table frames totals table-now frames-now totals-now answer → Not-refused answer → 12 ≤ length totals →
       Checks text (take answer table-now) (getD (words-of totals-now) 2 0) 0
   unfolding planned-of checked-number

@@ -1,5 +1,6 @@
--- Demand 3, in one piece, over the contracts of the code: whatever plan, words and stated delay the checker accepts, every run of them with answers that keep the
--- lookup's contract is right within the delay and exact; and so is every run of what the planner writes, with the delay that it gives.
+-- Demand 3, in one piece, over the contracts of the code: whatever plan, words and stated delay the checker accepts,
+-- every run of them with answers that keep the lookup's contract is right within the delay and exact; and so is every
+-- run of what the planner writes, with the delay that it gives.
 -- Assumes nothing.
 use mathlib.Core.Path.{_≡_, refl, ap, _∙_}
 use mathlib.Core.List.{List}
@@ -15,11 +16,11 @@ use Rattle.plan.specs.Memory.{lines}
 use Rattle.planner.specs.declared.Made.{Made}
 use Rattle.planner.specs.declared.Planned.the-variants as planned
 use Rattle.planner.specs.Planner as planner
-use Rattle.judging.specs.declared.Checked.the-variants.{Accepted}
-use Rattle.judging.specs.Judging.{answer-of}
-use Rattle.checker.proofs.Sound.{accepted-sound}
+use Rattle.checker.specs.declared.verdict.Checked.the-variants.{Accepted}
+use Rattle.checker.specs.Verdict.{answer-of}
+use Rattle.checker.proofs.AcceptedSound.{accepted-sound}
 use Rattle.agreement.proofs.Agreement.{planned-accepted}
-use Rattle.entry_search.specs.Finding.{found-of}
+use Rattle.kernel.specs.Finding.{found-of}
 use Rattle.demands.specs.Kernel.{Answers, Keeps, means, asked}
 
 means-back : (f : Found) → means (found-of f) ≡ f
@@ -27,7 +28,8 @@ means-back (entry i) = refl
 means-back none = refl
 means-back (refusal n) = refl
 
--- "for every combination, and whatever time up to its ticks each process takes": see `Demand-3` and `Right` in crates/model/specs/Demand.antt.
+-- "for every combination, and whatever time up to its ticks each process takes": see `Demand-3` and `Right` in
+-- crates/model/specs/Demand.antt.
 pub demand-three : (p : Plan) (words : List ℕ) (stated : ℕ) (answers : Answers) → answer-of (check (lines p) words stated) ≡ Accepted → Keeps (lines p) words answers →
     Demand-3 (lines p) words stated (asked answers)
 demand-three p words stated answers accepted keeps =

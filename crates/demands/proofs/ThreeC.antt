@@ -1,5 +1,6 @@
--- Demand 3 over the functions that C calls: whatever text and bytes `riscadru_check_table` accepts with a stated delay, every run of them with answers that keep the
--- contract of `riscadru_lookup` is right within the delay and exact, for the lines that the text means.
+-- Demand 3 over the functions that C calls: whatever text and bytes `riscadru_check_table` accepts with a stated delay,
+-- every run of them with answers that keep the contract of `riscadru_lookup` is right within the delay and exact, for
+-- the lines that the text means.
 -- Assumes nothing.
 use Prim.Native.Nat.{ℕ, _*_, _≤_, _<_}
 use mathlib.Core.Path.{_≡_, sym, ap, _∙_}
@@ -16,9 +17,9 @@ use Rattle.model.specs.Checking.{table-refusal, check}
 use Rattle.model.specs.Lookup.{Found, none, unless, lookup}
 use Rattle.model.specs.Firmware.{words-of, found-number, found-in}
 use Rattle.model.specs.Demand.{Demand-3}
-use Rattle.grammar.proofs.Whole.{means-unique}
+use Rattle.text_grammar.proofs.Whole.{means-unique}
 use Rattle.laws.proofs.Demand.{demand-3}
-use Rattle.check_text.specs.Checks.{Checks}
+use Rattle.c_check.specs.Checks.{Checks}
 use Rattle.demands.specs.KernelC.{Numbers, Keeps-numbers, number-means, asked-numbers}
 use Rattle.demands.specs.Sentences.{Sentence, first, plan-sentences, table-sentences, First-of-text, exceeds, not-of-the-form, of-lines}
 use Rattle.demands.proofs.Firsts.{table-first, plan-then, text-some}

@@ -14,27 +14,27 @@ use Rattle.model.specs.Refusals as m
 use Rattle.model.specs.Text.{Means, reads, not-read, after-refusal, unless-refused, bytes-after}
 use Rattle.model.specs.Table.{Result, answered, table-after, frames-after, entry-words}
 use Rattle.plan.specs.Memory.{lines, empty-plan}
-use Rattle.refusals.specs.declared.Refusal.{Refusal}
-use Rattle.refusals.specs.declared.Refusal.the-variants as refusal
-use Rattle.refusals.specs.Refusing.{refusal-of}
-use Rattle.plan_reader.specs.declared.Read.{Read}
-use Rattle.plan_reader.specs.Answer.{reading-of, Emptied}
-use Rattle.plan_writer.specs.declared.Written.{Written}
-use Rattle.plan_writer.specs.declared.Written.the-variants as written
-use Rattle.plan_writer.specs.Answer as writer
+use Rattle.plan_refusals.specs.declared.sentences.Refusal.{Refusal}
+use Rattle.plan_refusals.specs.declared.sentences.Refusal.the-variants as refusal
+use Rattle.plan_refusals.specs.Answer.{refusal-of}
+use Rattle.text_reader.specs.declared.reader.Read.{Read}
+use Rattle.text_reader.specs.Answer.{reading-of, Emptied}
+use Rattle.text_writer.specs.declared.writer.Written.{Written}
+use Rattle.text_writer.specs.declared.writer.Written.the-variants as written
+use Rattle.text_writer.specs.Answer as writer
 use Rattle.planner.specs.declared.Made.{Made}
 use Rattle.planner.specs.declared.Planned.{Planned}
 use Rattle.planner.specs.declared.Planned.the-variants as planned
 use Rattle.planner.specs.Planner as planner
-use Rattle.listing.specs.declared.Listed.{Listed}
-use Rattle.listing.specs.declared.Listed.the-variants as listed
+use Rattle.listing.specs.declared.writer.Listed.{Listed}
+use Rattle.listing.specs.declared.writer.Listed.the-variants as listed
 use Rattle.listing.specs.Answer as listing
-use Rattle.judging.specs.declared.Checked.{Checked}
-use Rattle.judging.specs.declared.Checked.the-variants as checked
-use Rattle.judging.specs.Judging as checker
-use Rattle.numbers.specs.Numbers.{written-number}
-use Rattle.capi.specs.Tables.{table-number, Puts}
-use Rattle.plan_bytes.specs.Filled.{table-bytes-after, frame-bytes-after, totals-after}
+use Rattle.checker.specs.declared.verdict.Checked.{Checked}
+use Rattle.checker.specs.declared.verdict.Checked.the-variants as checked
+use Rattle.checker.specs.Verdict as checker
+use Rattle.c_words.specs.Numbers.{written-number}
+use Rattle.c_interface.specs.Tables.{table-number, Puts}
+use Rattle.c_plan.specs.Filled.{table-bytes-after, frame-bytes-after, totals-after}
 use Rattle.demands.specs.Sentences.{In-number}
 use Rattle.demands.proofs.Firsts.{Told, number-refused, number-result}
 

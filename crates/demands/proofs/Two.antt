@@ -16,32 +16,32 @@ use Rattle.model.specs.Table.{Answer, made, Result, result, entry-words, frame-
 use Rattle.model.specs.Listing.{printed, program-prints}
 use Rattle.laws.proofs.Good.{good}
 use Rattle.laws.proofs.Choice.{urgency-law, urgency-weights, number-weights, starts-highest, queue-ordered}
-use Rattle.grammar.proofs.Whole.{means-unique}
-use Rattle.grammar.proofs.Answers.{answers-unique}
+use Rattle.text_grammar.proofs.Whole.{means-unique}
+use Rattle.text_grammar.proofs.Answers.{answers-unique}
 use Rattle.plan.specs.declared.Plan.{Plan}
 use Rattle.plan.specs.Memory.{lines}
-use Rattle.refusals.specs.declared.Refusal.the-variants as refusal
-use Rattle.refusals.specs.Refusing.{refusal-of}
-use Rattle.plan_reader.specs.declared.Read.{Read}
-use Rattle.plan_reader.specs.Answer.{reading-of}
-use Rattle.plan_writer.specs.declared.Written.{Written}
-use Rattle.plan_writer.specs.declared.Written.the-variants as written
-use Rattle.plan_writer.specs.Answer as writer
-use Rattle.refusals.proofs.Accepted.{of-read}
-use Rattle.plan_writer.proofs.Read.{written-is-read, read-is-written}
+use Rattle.plan_refusals.specs.declared.sentences.Refusal.the-variants as refusal
+use Rattle.plan_refusals.specs.Answer.{refusal-of}
+use Rattle.text_reader.specs.declared.reader.Read.{Read}
+use Rattle.text_reader.specs.Answer.{reading-of}
+use Rattle.text_writer.specs.declared.writer.Written.{Written}
+use Rattle.text_writer.specs.declared.writer.Written.the-variants as written
+use Rattle.text_writer.specs.Answer as writer
+use Rattle.plan_refusals.proofs.Accepted.{of-read}
+use Rattle.text_writer.proofs.ReadBack.{written-is-read, read-is-written}
 use Rattle.planner.specs.declared.Made.{Made}
 use Rattle.planner.specs.declared.Planned.the-variants as planned
 use Rattle.planner.specs.Planner as planner
-use Rattle.planner.proofs.Sound.{made-fine}
-use Rattle.listing.specs.declared.Listed.the-variants as listed
+use Rattle.planner.proofs.PlannedSound.{made-fine}
+use Rattle.listing.specs.declared.writer.Listed.the-variants as listed
 use Rattle.listing.specs.Answer as listing
 use Rattle.program.specs.Prints.{Prints}
 use Rattle.planner.proofs.Given.{Was-made, was-made}
-use Rattle.numbers.specs.Numbers.{written-number}
-use Rattle.copy_text.specs.Copy.{copy, Copies}
-use Rattle.listing_number.specs.Listing.{Lists}
-use Rattle.capi.specs.Tables.{planned-of, table-number, Puts, Tables}
-use Rattle.plan_bytes.specs.Filled.{table-bytes-after, frame-bytes-after, totals-after}
+use Rattle.c_words.specs.Numbers.{written-number}
+use Rattle.c_text.specs.Copy.{copy, Copies}
+use Rattle.c_text.specs.Listing.{Lists}
+use Rattle.c_interface.specs.Tables.{planned-of, table-number, Puts, Tables}
+use Rattle.c_plan.specs.Filled.{table-bytes-after, frame-bytes-after, totals-after}
 use Rattle.demands.specs.Sentences.{Sentence, first, bytes-sentences, room-sentences, Keeps-to}
 use Rattle.demands.specs.Two.{Not-refused, Scheduled, Scheduled-bytes, plan-listing, Plans, Demand-2}
 use Rattle.demands.proofs.Firsts.{plan-first, bytes-first, room-first, plan-then, by-text}

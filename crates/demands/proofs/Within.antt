@@ -13,7 +13,7 @@ use Rattle.model.specs.Plan.{Lines}
 use Rattle.model.specs.Table.{Entry, entries-of}
 use Rattle.model.specs.Lookup.{Found, entry, none, before-row, run-of-row, row-length, row-start, row-part, fits, find}
 use Rattle.model.specs.Firmware.{words-of}
-use Rattle.words.proofs.Reading.{words-count}
+use Rattle.c_words.proofs.Reading.{words-count}
 
 -- five words to an entry
 five : (ws : List ℕ) → 5 * length (entries-of ws) ≤ length ws

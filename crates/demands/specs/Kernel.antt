@@ -9,11 +9,12 @@ use Rattle.model.specs.Lookup.{entry, none, refusal, lookup}
 use Rattle.model.specs.Lookup as m
 use Rattle.model.specs.Run.{Ask}
 use Rattle.model.specs.Table.{entries-of}
-use Rattle.entry_search.specs.declared.Found.{Found}
-use Rattle.entry_search.specs.declared.Found.the-variants.{Entry, None, Refused}
-use Rattle.entry_search.specs.Finding.{found-of}
+use Rattle.kernel.specs.declared.search.Found.{Found}
+use Rattle.kernel.specs.declared.search.Found.the-variants.{Entry, None, Refused}
+use Rattle.kernel.specs.Finding.{found-of}
 
--- what the lookup answers to a node, a tick, the conditions heard, their values and the number of the first entry to look at
+-- what the lookup answers to a node, a tick, the conditions heard, their values and the number of the first entry to
+-- look at
 abbrev pub Answers : Type 0
 Answers = ℕ → ℕ → ℕ → ℕ → ℕ → Found
 

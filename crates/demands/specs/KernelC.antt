@@ -11,7 +11,8 @@ use Rattle.model.specs.Run.{Ask}
 use Rattle.model.specs.Table.{entries-of}
 use Rattle.model.specs.Firmware.{words-of, Answers-lookup}
 
--- what `riscadru_lookup` answers to a node, a tick, the conditions heard, their values and the number of the first entry to look at
+-- what `riscadru_lookup` answers to a node, a tick, the conditions heard, their values and the number of the first
+-- entry to look at
 abbrev pub Numbers : Type 0
 Numbers = ℕ → ℕ → ℕ → ℕ → ℕ → ℕ
 

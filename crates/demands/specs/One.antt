@@ -1,6 +1,7 @@
--- Demand 1: "Whoever calls, with whatever text, plan, table or buffer, gets a result or the first refusal in the list that applies; a refusal changes no word of
--- any buffer." One field for each function that is called; what stands before its `Keeps-to` is what the function's `ensures` says of its result, in the
--- definitions that the `ensures` is written with.
+-- Demand 1: "Whoever calls, with whatever text, plan, table or buffer, gets a result or the first refusal in the list
+-- that applies; a refusal changes no word of any buffer." One field for each function that is called; what stands
+-- before its `Keeps-to` is what the function's `ensures` says of its result, in the definitions that the `ensures` is
+-- written with.
 -- Assumes nothing.
 use Prim.Native.Nat.{ℕ, _+_, _*_, _/_, _≤_, _<_}
 use mathlib.Core.Path.{_≡_}
@@ -18,32 +19,32 @@ use Rattle.model.specs.Lookup.{lookup, row-start, row-length, row-part}
 use Rattle.model.specs.Firmware.{words-of, Answers-lookup}
 use Rattle.plan.specs.declared.Plan.{Plan}
 use Rattle.plan.specs.Memory.{lines, empty-plan}
-use Rattle.refusals.specs.declared.Refusal.{Refusal}
-use Rattle.refusals.specs.declared.Refusal.the-variants as refusal
-use Rattle.refusals.specs.Refusing.{refusal-of}
-use Rattle.plan_reader.specs.declared.Read.{Read}
-use Rattle.plan_reader.specs.Answer.{reading-of, Emptied}
-use Rattle.plan_writer.specs.declared.Written.{Written}
-use Rattle.plan_writer.specs.declared.Written.the-variants as written
-use Rattle.plan_writer.specs.Answer as writer
+use Rattle.plan_refusals.specs.declared.sentences.Refusal.{Refusal}
+use Rattle.plan_refusals.specs.declared.sentences.Refusal.the-variants as refusal
+use Rattle.plan_refusals.specs.Answer.{refusal-of}
+use Rattle.text_reader.specs.declared.reader.Read.{Read}
+use Rattle.text_reader.specs.Answer.{reading-of, Emptied}
+use Rattle.text_writer.specs.declared.writer.Written.{Written}
+use Rattle.text_writer.specs.declared.writer.Written.the-variants as written
+use Rattle.text_writer.specs.Answer as writer
 use Rattle.planner.specs.declared.Made.{Made}
 use Rattle.planner.specs.declared.Planned.{Planned}
 use Rattle.planner.specs.declared.Planned.the-variants as planned
 use Rattle.planner.specs.Planner as planner
-use Rattle.listing.specs.declared.Listed.{Listed}
-use Rattle.listing.specs.declared.Listed.the-variants as listed
+use Rattle.listing.specs.declared.writer.Listed.{Listed}
+use Rattle.listing.specs.declared.writer.Listed.the-variants as listed
 use Rattle.listing.specs.Answer as listing
 use Rattle.program.specs.Prints.{Prints}
-use Rattle.judging.specs.declared.Checked.{Checked}
-use Rattle.judging.specs.declared.Checked.the-variants as checked
-use Rattle.judging.specs.Judging as checker
-use Rattle.entry_search.specs.declared.Found.{Found}
-use Rattle.entry_search.specs.declared.Found.the-variants as found
-use Rattle.entry_search.specs.Finding.{found-of}
-use Rattle.check_text.specs.Checks.{Checks}
-use Rattle.copy_text.specs.Copy.{Copies}
-use Rattle.listing_number.specs.Listing.{Lists}
-use Rattle.capi.specs.Tables.{Tables}
+use Rattle.checker.specs.declared.verdict.Checked.{Checked}
+use Rattle.checker.specs.declared.verdict.Checked.the-variants as checked
+use Rattle.checker.specs.Verdict as checker
+use Rattle.kernel.specs.declared.search.Found.{Found}
+use Rattle.kernel.specs.declared.search.Found.the-variants as found
+use Rattle.kernel.specs.Finding.{found-of}
+use Rattle.c_check.specs.Checks.{Checks}
+use Rattle.c_text.specs.Copy.{Copies}
+use Rattle.c_text.specs.Listing.{Lists}
+use Rattle.c_interface.specs.Tables.{Tables}
 use Rattle.demands.specs.Sentences.{Sentence, plan-sentences, bytes-sentences, room-sentences, table-sentences, First-of, First-of-text, Keeps-to, In-number}
 
 -- 10, on what the planning program prints for a text
@@ -54,13 +55,13 @@ pub record Demand-1 : Type 0 where
   -- to every text one refusal applies first, or none
   pub some-first : (text : List ℕ) (on : Lines → List Sentence) → (x : m.Refusal) × First-of-text text on x
   pub one-first : (text : List ℕ) (on : Lines → List Sentence) (x y : m.Refusal) → First-of-text text on x → First-of-text text on y → x ≡ y
-  -- `refusals::refuse`
+  -- `plan_refusals::refuse`
   pub refusing : (p : Plan) (r : Refusal) → refusal-of r ≡ plan-refusal (lines p) → First-of (plan-sentences (lines p)) (refusal-of r)
-  -- `plan_reader::read_plan`: a refusal hands out the empty plan
+  -- `text_reader::read_plan`: a refusal hands out the empty plan
   pub reading : (text : List ℕ) (r : Read) → Answers-text text (reading-of r) → Emptied r →
       Keeps-to (First-of-text text plan-sentences) (λ n. r .refusal ≡ refusal.Refused n) (r .plan ≡ empty-plan)
       ((r .refusal ≡ refusal.Nothing) × Means text (lines (r .plan)))
-  -- `plan_writer::write_plan`
+  -- `text_writer::write_plan`
   pub writing : (p : Plan) (out out-now : List ℕ) (r : Written) → r ≡ writer.answer-of (write-plan (lines p) (length out)) →
       out-now ≡ bytes-after (write-plan (lines p) (length out)) out →
       Keeps-to (First-of (plan-sentences (lines p) ++ bytes-sentences (print (lines p)) (length out))) (λ n. r ≡ written.Refused n) (out-now ≡ out)
@@ -81,7 +82,8 @@ pub record Demand-1 : Type 0 where
   pub listing-refusal : (number : ℕ) (out out-now : List ℕ) (r : Listed) → r ≡ listing.answer-of (listing.written-of (length out) (refused-line number)) →
       out-now ≡ bytes-after (listing.written-of (length out) (refused-line number)) out →
       Keeps-to (First-of (bytes-sentences (refused-line number) (length out))) (λ n. r ≡ listed.Refused n) (out-now ≡ out) ((n : ℕ) × (r ≡ listed.Wrote n))
-  -- `program::print_plan`: a refusal of the text, or of what is planned with room for 3,000 entries and 2,000 frames, is printed, the first that applies
+  -- `program::print_plan`: a refusal of the text, or of what is planned with room for 3,000 entries and 2,000 frames,
+  -- is printed, the first that applies
   pub printing : (text out out-now : List ℕ) (r : Listed) → Prints text out out-now r →
       Keeps-to (First-of-printed text (length out)) (λ n. r ≡ listed.Refused n) (out-now ≡ out) ((n : ℕ) × (r ≡ listed.Wrote n))
   pub printed : (text : List ℕ) (reading : Reading) → Answers-text text reading → (n : ℕ) →
@@ -94,7 +96,7 @@ pub record Demand-1 : Type 0 where
       r ≡ found-of (lookup (lines p) table node tick heard values from) →
       Keeps-to (First-of (plan-sentences (lines p))) (λ n. r ≡ found.Refused n) (Unit {0})
       ((r ≡ found.None) ⊎ ((i : ℕ) × (i < length (entries-of table)) × (r ≡ found.Entry i)))
-  -- `row_query::row_entries`: no sentence applies, and what is handed back lies within the lent table
+  -- `kernel_rows::row_entries`: no sentence applies, and what is handed back lies within the lent table
   pub row : (table part : List ℕ) (r : ℕ) → part ≡ row-part table r → row-start table r + length part ≤ length table
   -- `riscadru_copy_plan`
   pub c-copying : (text out out-now : List ℕ) (answer : ℕ) → Copies text out out-now answer →
@@ -110,8 +112,9 @@ pub record Demand-1 : Type 0 where
   -- `riscadru_check_table`: nothing is lent for writing
   pub c-checking : (text table : List ℕ) (delay answer : ℕ) → Checks text table delay answer →
       Keeps-to (First-of-text text (λ p. plan-sentences p ++ table-sentences p (words-of table) delay)) (In-number answer) (Unit {0}) (answer ≡ 0)
-  -- `riscadru_lookup`: none as 2^64 - 1, or the number of an entry that the table has. The table has fewer than 2^64 bytes, as every lent slice: its length is a
-  -- number of 64 bits. So an entry's number is never one in which a refusal is answered.
+  -- `riscadru_lookup`: none as 2^64 - 1, or the number of an entry that the table has. The table has fewer than 2^64
+  -- bytes, as every lent slice: its length is a number of 64 bits. So an entry's number is never one in which a refusal
+  -- is answered.
   pub c-looking-up : (text table : List ℕ) (node tick heard values from answer : ℕ) → length table < 18446744073709551616 →
       Answers-lookup text table node tick heard values from answer →
       Keeps-to (First-of-text text plan-sentences) (In-number answer) (Unit {0})

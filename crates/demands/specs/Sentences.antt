@@ -1,5 +1,5 @@
--- Document 01, "Refused, in checking order", as lists of sentences, each with whether it applies; the first of a list that applies; and what it means that an
--- answer keeps to it.
+-- Document 01, "Refused, in checking order", as lists of sentences, each with whether it applies; the first of a list
+-- that applies; and what it means that an answer keeps to it.
 -- Assumes nothing.
 use Prim.Native.Nat.{ℕ, _-_, _%_, _≤_, _<_}
 use mathlib.Core.Path.{_≡_}
@@ -66,14 +66,15 @@ table-sentences p words stated =
 abbrev pub First-of : List Sentence → Refusal → Type 0
 First-of sentences x = first sentences ≡ x
 
--- x is the first that applies to a text: 1, "The text exceeds 16,384 bytes or is not of the form above", or the first of a list on the lines that it means
+-- x is the first that applies to a text: 1, "The text exceeds 16,384 bytes or is not of the form above", or the first
+-- of a list on the lines that it means
 pub data First-of-text (text : List ℕ) (on : Lines → List Sentence) : Refusal → Type 0 where
   exceeds : 16384 < length text → First-of-text text on (refused 1)
   not-of-the-form : ((p : Lines) → Means text p → ⊥) → First-of-text text on (refused 1)
   of-lines : (p : Lines) → Means text p → length text ≤ 16384 → First-of-text text on (first (on p))
 
--- An answer keeps to the first refusal that applies. `Refused-with n` says that the answer is refusal n, `Unchanged` that every lent buffer holds what it held,
--- `Result` that the answer is a result.
+-- An answer keeps to the first refusal that applies. `Refused-with n` says that the answer is refusal n, `Unchanged`
+-- that every lent buffer holds what it held, `Result` that the answer is a result.
 pub record Keeps-to (Is-first : Refusal → Type 0) (Refused-with : ℕ → Type 0) (Unchanged Result : Type 0) : Type 0 where
   pub refused-first : (n : ℕ) → Refused-with n → Is-first (refused n) × Unchanged
   pub first-refused : (n : ℕ) → Is-first (refused n) → Refused-with n

@@ -1,7 +1,9 @@
--- Demand 2: "A plan text means what its printed form says, and writing a plan and reading it give each other back. Table, frame list, pass-over count and worst
--- delay are those of list scheduling on a conditional process graph over TDMA slots, as laid down in document 01, ties included." What stands before the last arrow
--- of a field is what the functions' `ensures` say of their results. The printed form of lines is `print` (crates/model/specs/Text.antt), and list
--- scheduling is `result` (crates/model/specs/Table.antt), which rests on `step` and `turns` (crates/model/specs/Planning.antt).
+-- Demand 2: "A plan text means what its printed form says, and writing a plan and reading it give each other back.
+-- Table, frame list, pass-over count and worst delay are those of list scheduling on a conditional process graph over
+-- TDMA slots, as laid down in document 01, ties included." What stands before the last arrow of a field is what the
+-- functions' `ensures` say of their results. The printed form of lines is `print` (crates/model/specs/Text.antt), and
+-- list scheduling is `result` (crates/model/specs/Table.antt), which rests on `step` and `dispatch-order`
+-- (crates/model/specs/Planning.antt).
 -- Assumes nothing.
 use Prim.Native.Nat.{ℕ, _+_, _*_, _≤_, _<_}
 use mathlib.Core.Path.{_≡_}
@@ -19,24 +21,24 @@ use Rattle.model.specs.Refusals.{nothing}
 use Rattle.model.specs.Text.{print, Means, Answers-text, write-plan, bytes-after}
 use Rattle.model.specs.Table.{result, entry-words, frame-words, plan-answer, table-after, frames-after}
 use Rattle.model.specs.Listing.{listing}
-use Rattle.words.specs.Bytes.{bytes-of}
+use Rattle.c_words.specs.Bytes.{bytes-of}
 use Rattle.plan.specs.declared.Plan.{Plan}
 use Rattle.plan.specs.Memory.{lines}
-use Rattle.refusals.specs.declared.Refusal.the-variants as refusal
-use Rattle.plan_reader.specs.declared.Read.{Read}
-use Rattle.plan_reader.specs.Answer.{reading-of}
-use Rattle.plan_writer.specs.declared.Written.{Written}
-use Rattle.plan_writer.specs.declared.Written.the-variants as written
-use Rattle.plan_writer.specs.Answer as writer
+use Rattle.plan_refusals.specs.declared.sentences.Refusal.the-variants as refusal
+use Rattle.text_reader.specs.declared.reader.Read.{Read}
+use Rattle.text_reader.specs.Answer.{reading-of}
+use Rattle.text_writer.specs.declared.writer.Written.{Written}
+use Rattle.text_writer.specs.declared.writer.Written.the-variants as written
+use Rattle.text_writer.specs.Answer as writer
 use Rattle.planner.specs.declared.Made.{Made}
 use Rattle.planner.specs.declared.Planned.the-variants as planned
 use Rattle.planner.specs.Planner as planner
-use Rattle.listing.specs.declared.Listed.the-variants as listed
+use Rattle.listing.specs.declared.writer.Listed.the-variants as listed
 use Rattle.program.specs.Prints.{Prints}
-use Rattle.copy_text.specs.Copy.{Copies}
-use Rattle.listing_number.specs.Listing.{Lists}
-use Rattle.capi.specs.Tables.{Tables}
-use Rattle.plan_bytes.specs.Filled.{totals-of}
+use Rattle.c_text.specs.Copy.{Copies}
+use Rattle.c_text.specs.Listing.{Lists}
+use Rattle.c_interface.specs.Tables.{Tables}
+use Rattle.c_plan.specs.Filled.{totals-of}
 use Rattle.demands.specs.Sentences.{First-of, plan-sentences, room-sentences, In-number}
 
 -- "highest first, ties to the lower number": x goes before y by a weight
@@ -74,15 +76,15 @@ pub record Plans (text : List ℕ) (p : Lines) : Type 0 where
   pub fine : First-of (plan-sentences p ++ room-sentences (result p) 15000 6000) nothing
 
 pub record Demand-2 : Type 0 where
-  -- `plan_reader::read_plan`: the plan that is read prints as the text, and no other lines do; lines to which no sentence applies are read from their text;
-  -- two texts that are read as the same lines are the same
+  -- `text_reader::read_plan`: the plan that is read prints as the text, and no other lines do; lines to which no
+  -- sentence applies are read from their text; two texts that are read as the same lines are the same
   pub meaning : (text : List ℕ) (r : Read) → Answers-text text (reading-of r) → r .refusal ≡ refusal.Nothing → print (lines (r .plan)) ≡ text
   pub only-meaning : (text : List ℕ) (r : Read) → Answers-text text (reading-of r) → r .refusal ≡ refusal.Nothing → (q : Lines) → Means text q → q ≡ lines (r .plan)
   pub is-read : (text : List ℕ) (r : Read) → Answers-text text (reading-of r) → (q : Lines) → Means text q → length text ≤ 16384 → First-of (plan-sentences q) nothing →
       (r .refusal ≡ refusal.Nothing) × (lines (r .plan) ≡ q)
   pub one-text : (text other : List ℕ) (r s : Read) → Answers-text text (reading-of r) → Answers-text other (reading-of s) → r .refusal ≡ refusal.Nothing →
       s .refusal ≡ refusal.Nothing → lines (r .plan) ≡ lines (s .plan) → text ≡ other
-  -- `plan_writer::write_plan`, then `read_plan` on the bytes written: a plan with the same lines
+  -- `text_writer::write_plan`, then `read_plan` on the bytes written: a plan with the same lines
   pub written-read : (p : Plan) (out out-now : List ℕ) (n : ℕ) → written.Wrote n ≡ writer.answer-of (write-plan (lines p) (length out)) →
       out-now ≡ bytes-after (write-plan (lines p) (length out)) out → (r : Read) → Answers-text (take n out-now) (reading-of r) →
       (r .refusal ≡ refusal.Nothing) × (lines (r .plan) ≡ lines p)
@@ -106,13 +108,14 @@ pub record Demand-2 : Type 0 where
       (n ≡ length (plan-listing p)) × (out-now ≡ front (plan-listing p) out)
   pub c-printed : (text out out-now : List ℕ) (answer : ℕ) → Lists text out out-now answer → Not-refused answer → (p : Lines) → Plans text p →
       (answer ≡ length (plan-listing p)) × (out-now ≡ front (plan-listing p) out)
-  -- Ties, in the definitions that `result` rests on. "Urgency of a process: its ticks plus the greatest urgency among those its edges lead to, 0 if none"; with pick number
-  -- all weigh the same, which leaves the number.
+  -- Ties, in the definitions that `result` rests on. "Urgency of a process: its ticks plus the greatest urgency among
+  -- those its edges lead to, 0 if none"; with pick number all weigh the same, which leaves the number.
   pub urgency : (p : Lines) → First-of (plan-sentences p) nothing → (i : ℕ) → i < length (p .processes) →
       getD (urgencies p) i 0 ≡ process p i .ticks + greatest (map (λ e. getD (urgencies p) (edge p e .to) 0) (out-of p i))
   pub by-weight : (p : Lines) → (p .pick ≡ by-urgency → weights p ≡ urgencies p) × (p .pick ≡ by-number → (i : ℕ) → getD (weights p) i 0 ≡ 0)
   -- "Each free node starts its ready process of highest urgency, ties to the lower number."
   pub starts-first : (p : Lines) (v : View) (t u : ℕ) (x : Placed) → In x (unit-starts p v t u) → (candidate p v u (x .row) ≡ true) ×
       ((j : ℕ) → j < length (p .processes) → candidate p v u j ≡ true → (x .row ≡ j → ⊥) → Goes-first (λ i. getD (weights p) i 0) (x .row) j)
-  -- "messages by urgency of the receiver, highest first, ties to the lower edge number (pick number: edge number alone)": the order in which a slot tries them
+  -- "messages by urgency of the receiver, highest first, ties to the lower edge number (pick number: edge number
+  -- alone)": the order in which a slot tries them
   pub sends-first : (p : Lines) → Ranked (Goes-first (λ e. getD (weights p) (edge p e .to) 0)) (queue p)

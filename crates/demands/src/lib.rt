@@ -1,1 +1,4 @@
-// The demands of the customer as theorems over the contracts' own definitions: see proofs/.
+// The three demands of the customer as theorems over the contracts' own definitions: the statements are in specs/, the
+// proofs in proofs/.
+// Document 01: "Demand 3 makes a single claim about the whole run, with all its lookups, and not one for each lookup or
+// tick."

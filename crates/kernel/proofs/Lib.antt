@@ -1,2 +1,6 @@
--- Laws of the lookup: Nodes (the node of a row in a plan's arrays, and so the search over them, is the model's).
-pub mod Nodes
+-- Laws of what is heard: ColumnBits (two tests on words are a test on each bit).
+pub mod ColumnBits
+-- Laws of the search: SearchTurns (the test of an entry, and the turns of the search).
+pub mod SearchTurns
+-- Laws of the lookup: NodesOfModel (the node of a row in a plan's arrays, and so the search over them, is the model's).
+pub mod NodesOfModel

@@ -1,72 +1,11 @@
-// The kernel lookup: which entry of a table a unit takes up next.
-use entry_search::Found;
-use entry_search::first_fitting;
-use entry_search::wide;
-use plan::Plan;
-use plan::tables::edge_table;
-use plan::tables::process_table;
-use refusals::Refusal;
-use refusals::refuse;
-ghost use mathlib.Core.Path.{_≡_};
-ghost use Rattle.model.specs.Refusals.{nothing, plan-refusal};
-ghost use Rattle.model.specs.Lookup as m;
-ghost use Rattle.plan.specs.Memory.{lines};
-ghost use Rattle.entry_search.specs.Finding.{found-of};
+// The kernel lookup over a table's words: the column test, the search from an entry on, and the lookup with the plan's
+// refusals.
+// Document 01: "It gives the number of the first entry, from there on, of that node (an edge or broadcast counts to its
+// sender) at that tick whose known bits are all heard, with the heard values at those bits, or none."
+mod column;
+mod search;
+mod table;
 
-// The first entry from number `first` on that is of a node at a tick and whose column is met by what is heard, for a plan in which refusals 2 to 9 find nothing: the plan tells the node
-// of a row. A node that it lacks has no entries.
-fn found_in(
-    p: Plan,
-    table: &[u32],
-    node: u32,
-    tick: u32,
-    heard: u32,
-    values: u32,
-    first: usize,
-) -> Found
-    requires { ⌜ plan-refusal (lines p) ≡ nothing ⌝ }
-    ensures { λ r. ⌜ r ≡ found-of (m.lookup (lines p) (now (table .entry)) node tick heard values first) ⌝ }
-{
-    if p.slots <= wide(node) {
-        return Found::None;
-    }
-    let q = process_table(p);
-    let e = edge_table(p);
-    let tell = p.processes + p.edges;
-    let rows = tell + p.conditions;
-    first_fitting(
-        table,
-        first,
-        &e.from,
-        &p.condition,
-        &q.node,
-        p.processes,
-        tell,
-        rows,
-        node,
-        tick,
-        heard,
-        values,
-    )
-}
-
-// The kernel lookup: the number of the first entry, from number `first` on, of a node at a tick whose known bits are all heard, with the
-// heard values at those bits; or none. A message or broadcast is of its sender's node, and a row that the plan lacks of no node. Refusals 2
-// to 9 are tried on the plan first.
-pub fn lookup(
-    p: Plan,
-    table: &[u32],
-    node: u32,
-    tick: u32,
-    heard: u32,
-    values: u32,
-    first: usize,
-) -> Found
-    ensures { λ r. ⌜ r ≡ found-of (m.lookup (lines p) (now (table .entry)) node tick heard values first) ⌝ }
-{
-    let refusal = refuse(p);
-    match refusal {
-        Refusal::Refused(n) => Found::Refused(n),
-        Refusal::Nothing => found_in(p, table, node, tick, heard, values, first),
-    }
-}
+pub use search::Found;
+pub use search::row_fits;
+pub use table::lookup;

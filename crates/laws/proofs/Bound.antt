@@ -20,7 +20,7 @@ use Rattle.model.specs.Checking.{due}
 use Rattle.laws.proofs.Good.{Good, good}
 use Rattle.laws.proofs.OnlyDue.{started-due, pending-due, only-due}
 use Rattle.laws.proofs.Progress.{everything-over, over-by-bound}
-use Rattle.laws.proofs.QuietTicks.{idle-step}
+use Rattle.laws.proofs.UnchangedTicks.{idle-step}
 use Rattle.laws.proofs.Rows.{in-placed, full-tick, full-length}
 use Rattle.laws.proofs.Steps.{pending-fresh, pending-in, starts-in, log-at, view-at}
 

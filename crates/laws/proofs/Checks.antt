@@ -17,7 +17,7 @@ use Rattle.model.specs.Activity.{all-heard, carries}
 use Rattle.model.specs.Bus.{begins, slot-of, rows, is-process, sender, row-node, row-bytes}
 use Rattle.model.specs.Log.{Placed, Log, of-row, delivered}
 use Rattle.model.specs.Table.{Entry, known-bits, bits-within, column-met}
-use Rattle.model.specs.Checking.{met-entries, met-log, due, miscounted, not-once, guesses, uses-unknown, missing, early, too-early, off-beginning, off-slot, apart, run-together, overlap, past-end, lie-together, share-byte}
+use Rattle.model.specs.Checking.{met-entries, met-log, due, miscounted, not-once, column-unknown, uses-unknown, missing, placed-early, too-early, off-beginning, off-slot, apart, run-together, overlap, past-end, lie-together, share-byte}
 use Rattle.laws.proofs.Rows.{done-by, known-by}
 use Rattle.laws.proofs.Rules.{Start, Item}
 
@@ -78,10 +78,10 @@ module _ (p : Lines) (es : List Entry) (c : List Bool) where
   -- 15
   pub none-15 : (uses-unknown p es c ≡ false)
       ↔ ((e : Entry) → In e es → column-met (all-heard c) e ≡ true → bits-within 32 (e .known) (known-bits (known-by p c M (e .tick))) ≡ true)
-  unfolding uses-unknown guesses met-entries
+  unfolding uses-unknown column-unknown met-entries
   none-15 = (
-    λ h e m q. not-false _ (none-in (guesses p c M) h (in-keep (column-met (all-heard c)) m q)),
-    λ f. any-false (guesses p c M) (met-entries es c) (λ e m. let q = keep-in (column-met (all-heard c)) es m in no (f e (q .0) (q .1))),
+    λ h e m q. not-false _ (none-in (column-unknown p c M) h (in-keep (column-met (all-heard c)) m q)),
+    λ f. any-false (column-unknown p c M) (met-entries es c) (λ e m. let q = keep-in (column-met (all-heard c)) es m in no (f e (q .0) (q .1))),
   )
 
   -- 16
@@ -92,15 +92,15 @@ module _ (p : Lines) (es : List Entry) (c : List Bool) where
   After-sender = (x : Placed) → Item p M x → done-by p M (x .tick) (sender p (x .row)) ≡ true
 
   pub none-16 : (too-early p es c ≡ false) ↔ (After-inputs × After-sender)
-  unfolding too-early early missing
+  unfolding too-early placed-early missing
   none-16 = (
     λ h. (
       λ x m e n q.
-          let f : any (missing p c (done-by p M (x .tick))) (into p (x .row)) ≡ false = rw (lt-ltb (x .row) (length (p .processes)) (m .low)) at (none-in (early p c M) h (m .member)) in
+          let f : any (missing p c (done-by p M (x .tick))) (into p (x .row)) ≡ false = rw (lt-ltb (x .row) (length (p .processes)) (m .low)) at (none-in (placed-early p c M) h (m .member)) in
           not-false _ (not-both (carries p c e) _ (none-in (missing p c (done-by p M (x .tick))) f n) q),
-      λ x m. not-false _ (rw (le-ltb (x .row) (length (p .processes)) (m .high)) at (none-in (early p c M) h (m .member))),
+      λ x m. not-false _ (rw (le-ltb (x .row) (length (p .processes)) (m .high)) at (none-in (placed-early p c M) h (m .member))),
     ),
-    λ f. any-false (early p c M) M (λ x m. at f x m (is-process p (x .row)) refl),
+    λ f. any-false (placed-early p c M) M (λ x m. at f x m (is-process p (x .row)) refl),
   )
     where
       at : After-inputs × After-sender → (x : Placed) → In x M → (b : Bool) → is-process p (x .row) ≡ b →

@@ -1,4 +1,5 @@
--- The urgencies are those of document 01, a unit starts its candidate of highest urgency, and messages are tried by falling urgency.
+-- The urgencies are those of document 01, a unit starts its candidate of highest urgency, and messages are tried by
+-- falling urgency.
 -- Assumes nothing.
 use mathlib.Core.Path.{_≡_, refl, sym, ap, _∙_, subst}
 use mathlib.Core.Logic.{_⊎_, inl, inr, _↔_}
@@ -15,9 +16,9 @@ use Rattle.lists.proofs.Members.{map-same, map-in, keep-in, below-in, if-in, fi
 use Rattle.lists.proofs.Sorting.{Ranked, Heavier, first-ranked, upfrom-ranked, sort-ranked}
 use Rattle.model.specs.Plan.{Lines, Pick, by-urgency, by-number, process, processes, edge, edges, out-of}
 use Rattle.model.specs.Log.{Placed}
-use Rattle.model.specs.Planning.{urgencies-from, urgencies, weights-by, weights, turns, queue, View, free, candidate, start-at, unit-starts}
+use Rattle.model.specs.Planning.{urgencies-from, urgencies, weights-by, weights, dispatch-order, queue, View, free, candidate, start-at, unit-starts}
 use Rattle.laws.proofs.Good.{Good}
-use Rattle.laws.proofs.Steps.{in-turns, in-queue, queue-in, queue-once}
+use Rattle.laws.proofs.Steps.{in-dispatch-order, in-queue, queue-in, queue-once}
 
 module _ (p : Lines) where
   -- "Urgency of a process: its ticks plus the greatest urgency among those its edges lead to, 0 if none"
@@ -63,17 +64,17 @@ module _ (p : Lines) where
   abbrev receiver : ℕ → ℕ
   receiver e = weight (edge p e .to)
 
-  -- "Each free node starts its ready process of highest urgency, ties to the lower number." That a free unit with a candidate starts
-  -- one is `in-starts` of Steps.
+  -- "Each free node starts its ready process of highest urgency, ties to the lower number." That a free unit with a
+  -- candidate starts one is `in-starts` of Steps.
   pub starts-highest : (v : View) (t u : ℕ) (x : Placed) → In x (unit-starts p v t u) → (candidate p v u (x .row) ≡ true) ×
       ((j : ℕ) → j < length (p .processes) → candidate p v u j ≡ true → (x .row ≡ j → ⊥) → Heavier weight _<_ (x .row) j)
-  unfolding unit-starts turns
+  unfolding unit-starts dispatch-order
   starts-highest v t u x m =
-      let s = map-in (start-at t) (first (candidate p v u) (turns p)) (if-in (free p v u) _ m .1) in
-      let n : In (x .row) (first (candidate p v u) (turns p)) = subst (λ (y : Placed). In (y .row) (first (candidate p v u) (turns p))) (sym (s .2)) (s .1) in
-      (first-in (candidate p v u) (turns p) n .1, λ j l c d. at j d (first-ranked _ (candidate p v u) (turns p) ranked n (in-turns p j l) c))
+      let s = map-in (start-at t) (first (candidate p v u) (dispatch-order p)) (if-in (free p v u) _ m .1) in
+      let n : In (x .row) (first (candidate p v u) (dispatch-order p)) = subst (λ (y : Placed). In (y .row) (first (candidate p v u) (dispatch-order p))) (sym (s .2)) (s .1) in
+      (first-in (candidate p v u) (dispatch-order p) n .1, λ j l c d. at j d (first-ranked _ (candidate p v u) (dispatch-order p) ranked n (in-dispatch-order p j l) c))
     where
-      ranked : Ranked (Heavier weight _<_) (turns p)
+      ranked : Ranked (Heavier weight _<_) (dispatch-order p)
       ranked = sort-ranked weight _<_ (processes p) (upfrom-ranked 0 (length (p .processes)))
 
       at : (j : ℕ) → (x .row ≡ j → ⊥) → (x .row ≡ j) ⊎ Heavier weight _<_ (x .row) j → Heavier weight _<_ (x .row) j

@@ -1,5 +1,5 @@
--- Columns and what is heard: a column that is met stays met as more is heard, it is met as soon as its known bits are heard, and what is
--- known at a tick is part of the combination.
+-- Columns and what is heard: a column that is met stays met as more is heard, it is met as soon as its known bits are
+-- heard, and what is known at a tick is part of the combination.
 -- Assumes nothing.
 use mathlib.Core.Path.{_≡_, refl, sym, ap, _∙_, subst₂}
 use mathlib.Core.Logic.{_⊎_, inl, inr}
@@ -132,7 +132,8 @@ met-by (suc m) (suc n) k v l u =
     let b = eqb (v % 2) 1 in
     (b ∷ r .0, ap suc (r .1), met-close m k v (heard b) (all-heard (r .0)) (own-bit k v b refl) (r .2))
 
--- A column that a combination meets is met too with another value of condition k, or else it names k: where its bits are known, k is.
+-- A column that a combination meets is met too with another value of condition k, or else it names k: where its bits
+-- are known, k is.
 abbrev pub Named : ℕ → ℕ → List Bool → ℕ → Type 0
 Named n kn c k = (h : List Heard) → More h (all-heard c) → bits-within n kn (known-bits h) ≡ true → getD h k unheard ≡ heard (getD c k false)
 

@@ -1,5 +1,6 @@
--- A table with more entries than combinations times rows has a row that some combination meets twice: each entry that is not ill-formed is met in some combination, and
--- where refusal 14 finds nothing, a combination meets at most one entry of each row.
+-- A table with more entries than combinations times rows has a row that some combination meets twice: each entry that
+-- is not ill-formed is met in some combination, and where refusal 14 finds nothing, a combination meets at most one
+-- entry of each row.
 -- Assumes nothing.
 use mathlib.Core.Path.{_≡_}
 use mathlib.Core.Bool.{Bool, true, false}

@@ -1,4 +1,5 @@
--- Demand 3: whoever runs a sound table by the lookup's answers has a run that is right, whole and for every combination.
+-- Demand 3: whoever runs a sound table by the lookup's answers has a run that is right, whole and for every
+-- combination.
 -- Assumes nothing.
 use mathlib.Core.Path.{_≡_, sym, ap, _∙_, subst}
 use mathlib.Core.Logic.{_⊎_, inl, inr}

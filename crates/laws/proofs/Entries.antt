@@ -1,4 +1,5 @@
--- The planner's entries ascend, and those that a combination meets are those that are made from its own log, one for each row of it.
+-- The planner's entries ascend, and those that a combination meets are those that are made from its own log, one for
+-- each row of it.
 -- Assumes nothing.
 use mathlib.Core.Path.{_≡_, refl, sym, ap, _∙_, subst, subst₂}
 use mathlib.Core.Logic.{inr}
@@ -106,7 +107,8 @@ module _ (p : Lines) where
         in-each (row-entries p (plans p)) (in-below (rows p) (x .row) (only-due p c g cl (bound p) x m .0))
         (subst (λ (z : Entry). In z (row-entries p (plans p) (x .row))) (sym (r .2)) (r .1))
 
-    -- A combination that meets the column of another's entry had the same log up to the entry's tick, and makes the same entry.
+    -- A combination that meets the column of another's entry had the same log up to the entry's tick, and makes the
+    -- same entry.
     module _ (c d : List Bool) (cl : length c ≡ length (p .conditions)) (dl : length d ≡ length (p .conditions)) (x : Placed) (m : In x (final p d))
         (met : column-met (all-heard c) (entry-of p d (final p d) x) ≡ true) where
       abbrev T : ℕ

@@ -1,4 +1,5 @@
--- What a planner that goes from event to event needs of a tick: which slot begins, what its items are, and how many slots pass a ready item over.
+-- What a planner that goes from event to event needs of a tick: which slot begins, what its items are, and how many
+-- slots pass a ready item over.
 -- Assumes nothing.
 use mathlib.Core.Path.{_≡_, refl, sym, ap, _∙_, subst}
 use mathlib.Core.Bool.{Bool, true, false, not, _&&_}
@@ -16,7 +17,7 @@ use Rattle.lists.proofs.Different.{keep-different, different-parts, different-f
 use Rattle.model.specs.Plan.{Lines, Slot, process, edge, decider, conditions, local}
 use Rattle.model.specs.Bus.{rows, begins, beginning, edge-row, condition-row, row-bytes, slot-of}
 use Rattle.model.specs.Log.{message-ready, broadcast-ready}
-use Rattle.model.specs.Planning.{View, waits-to-tell, waits-to-send, queue, pending, pack, takes, passes-over, starts, sends, step, before}
+use Rattle.model.specs.Planning.{View, waits-to-broadcast, waits-to-send, queue, pending, pack, takes, passes-over, starts, sends, step, before}
 use Rattle.laws.proofs.Good.{Good}
 use Rattle.laws.proofs.Slots.{slot-own, beginning-in, in-beginning, one-slot-a-tick}
 use Rattle.laws.proofs.Rows.{condition-bytes, edge-bytes}
@@ -64,10 +65,10 @@ module _ (p : Lines) (c : List Bool) (done put more : ℕ → Bool) (same : (r :
   w = seen p c done more
 
   pub pending-same : (n : ℕ) → pending p (seen p c done put) n ≡ pending p (seen p c done more) n
-  unfolding pending waits-to-tell waits-to-send
+  unfolding pending waits-to-broadcast waits-to-send
   pending-same n =
-      let a : keep (waits-to-tell p v n) (conditions p) ≡ keep (waits-to-tell p w n) (conditions p) =
-      keep-same (waits-to-tell p v n) (waits-to-tell p w n) (conditions p)
+      let a : keep (waits-to-broadcast p v n) (conditions p) ≡ keep (waits-to-broadcast p w n) (conditions p) =
+      keep-same (waits-to-broadcast p v n) (waits-to-broadcast p w n) (conditions p)
       (λ k m i. eqb (process p (decider p k) .node) n && not (same (condition-row p k) (omega arith) i) && broadcast-ready p done k) in
       let b : keep (waits-to-send p v n) (queue p) ≡ keep (waits-to-send p w n) (queue p) =
       keep-same (waits-to-send p v n) (waits-to-send p w n) (queue p)

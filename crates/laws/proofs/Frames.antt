@@ -1,4 +1,5 @@
--- The frame list has a frame for each slot occurrence that is used in any combination, of the greatest last used byte, and no others.
+-- The frame list has a frame for each slot occurrence that is used in any combination, of the greatest last used byte,
+-- and no others.
 -- Assumes nothing.
 use mathlib.Core.Path.{_≡_, refl, sym, ap, _∙_, subst}
 use mathlib.Core.Logic.{_⊎_, inl, inr}

@@ -1,4 +1,5 @@
--- The log before a tick: it only grows, a member of it was placed at its own tick, and what is over by a tick is settled at it.
+-- The log before a tick: it only grows, a member of it was placed at its own tick, and what is over by a tick is
+-- settled at it.
 -- Assumes nothing.
 use mathlib.Core.Path.{_≡_, sym, ap, subst}
 use mathlib.Core.Logic.{_⊎_, inl, inr}

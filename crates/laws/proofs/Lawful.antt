@@ -1,4 +1,5 @@
--- A lawful table: in every combination each due row is met exactly once and no other row is, at ticks up to 999,999,999.
+-- A lawful table: in every combination each due row is met exactly once and no other row is, at ticks up to
+-- 999,999,999.
 -- Assumes nothing.
 use mathlib.Core.Path.{_≡_, refl, sym, ap, _∙_, subst}
 use mathlib.Core.Bool.{Bool, true, false, _||_}

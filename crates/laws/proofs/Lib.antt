@@ -1,26 +1,33 @@
--- Theorems about the definitions of document 01, for every plan in which refusals 2 to 9 find nothing. A reader's guide, bottom up:
+-- Theorems about the definitions of document 01, for every plan in which refusals 2 to 9 find nothing. A reader's
+-- guide, bottom up:
 --
 -- What is used everywhere
 --   Good            the facts that refusals 2 to 9 leave of a plan, as a record
 --   Active          who runs: a process is active just where all, or for `any` at least one, of its edges carry
---   Slots           `first-beginning` is the first beginning of a node's slot at or after a tick; at most one slot begins at a tick
+--   Slots           `first-beginning` is the first beginning of a node's slot at or after a tick; at most one slot
+-- begins at a tick
 --   Rows            what is due of a row, who sends it, how long it lasts; what a log says of a row
---   Rules           the rules that a log keeps (`Kept`), and a table whose met entries keep them in every combination (`Lawful`)
+--   Rules           the rules that a log keeps (`Kept`), and a table whose met entries keep them in every combination
+-- (`Lawful`)
 --
 -- Planning is safe
 --   Steps           what one tick of planning places
---   Choice          what it chooses: `urgency-law`, `starts-highest` for a free unit, `queue-ordered` for the messages of a slot
+--   Choice          what it chooses: `urgency-law`, `starts-highest` for a free unit, `queue-ordered` for the messages
+-- of a slot
 --   NonAnticipation combinations that agree on what is known at a tick have the same plan up to and including it
---   QuietTicks      a tick at which nothing ends or arrives and no slot with a pending item begins changes nothing
+--   UnchangedTicks      a tick at which nothing ends or arrives and no slot with a pending item begins changes nothing
 --   OnlyDue, Once   only due rows are placed, each at most once
 --   Events          which slot begins at a tick, what it goes by, and how many slots pass a ready item over
 --   History         what stands in the log was placed at its tick, and what was over or known then stays so
 --   Safety          `planning-keeps`: the log before every tick keeps the rules
 --
 -- Planning comes to an end
---   Potential, Frozen, Progress   what is left to do falls, and where nothing is left everything due is placed: `everything-over`
---   Bound           `delay-within` document 01's bound, `planning-ends` there, and the bound is a tick that a table can hold
---   Sharing         the plans of two combinations that differ in one condition are the same until its value arrives, and what was placed by then can be read
+--   Potential, Frozen, Progress   what is left to do falls, and where nothing is left everything due is placed:
+-- `everything-over`
+--   Bound           `delay-within` document 01's bound, `planning-ends` there, and the bound is a tick that a table can
+-- hold
+--   Sharing         the plans of two combinations that differ in one condition are the same until its value arrives,
+-- and what was placed by then can be read
 --                   off the finished plan
 --
 -- Sound tables
@@ -32,14 +39,16 @@
 --
 -- Runs
 --   Calls           the calls of a unit at a tick give exactly the entries that fit
---   RunTick, RunHeard, RunLog   `run-matches`: a run of a sound table is, row by row, the entries that the combination meets
+--   RunTick, RunHeard, RunLog   `run-matches`: a run of a sound table is, row by row, the entries that the combination
+-- meets
 --   Demand          `demand-3`: demand 3 for every sound table, in one theorem
 --
 -- The planner's own table
 --   Entries         its entries are in order, and equal row, known and values make equal entries (`equal-places`)
 --   OwnTable        `own-table-sound` with the delay given, and `planned-runs`: demand 3 for it
 --   Words           entries and frames as words and back, and the listing of a result's words
---   Frames          every frame is used by an item of its node (`frame-used`), and every item has its frame (`item-framed`)
+--   Frames          every frame is used by an item of its node (`frame-used`), and every item has its frame
+-- (`item-framed`)
 pub mod Good
 pub mod Active
 pub mod Slots
@@ -48,7 +57,7 @@ pub mod Rules
 pub mod Steps
 pub mod Choice
 pub mod NonAnticipation
-pub mod QuietTicks
+pub mod UnchangedTicks
 pub mod OnlyDue
 pub mod Once
 pub mod Events

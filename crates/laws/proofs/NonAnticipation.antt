@@ -1,4 +1,5 @@
--- Non-anticipation: combinations that agree on what is known at a tick have the same state up to that tick and after it.
+-- Non-anticipation: combinations that agree on what is known at a tick have the same state up to that tick and after
+-- it.
 -- Assumes nothing.
 use mathlib.Core.Path.{_≡_, refl, ap, _∙_}
 use mathlib.Core.Bool.{Bool, true, false}

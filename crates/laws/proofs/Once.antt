@@ -15,7 +15,7 @@ use Rattle.lists.proofs.Different.{keep-different, different-cons, different-pa
 use Rattle.model.specs.Plan.{Lines, Slot, conditions, unit, units}
 use Rattle.model.specs.Bus.{begins, beginning, edge-row, condition-row, row-node, row-bytes}
 use Rattle.model.specs.Log.{Placed, Log}
-use Rattle.model.specs.Planning.{View, turns, queue, free, candidate, start-at, unit-starts, starts, waits-to-tell, waits-to-send, pending, pack, takes, sends, before}
+use Rattle.model.specs.Planning.{View, dispatch-order, queue, free, candidate, start-at, unit-starts, starts, waits-to-broadcast, waits-to-send, pending, pack, takes, sends, before}
 use Rattle.laws.proofs.Good.{Good}
 use Rattle.laws.proofs.Rows.{in-placed}
 use Rattle.laws.proofs.Steps.{Started, queue-in, queue-once, pending-node, pack-in, unit-starts-in, starts-in, takes-in, sends-in, pending-item, log-at, view-at, new-at, new-facts, log-next}
@@ -37,7 +37,7 @@ row-unique (z ∷ log) d x y (there m) (there n) q = row-unique log (different-p
 module _ (p : Lines) (v : View) (t : ℕ) where
   start-one : (u : ℕ) → Upto-one (unit-starts p v t u)
   unfolding unit-starts
-  start-one u = at (free p v u) (first (candidate p v u) (turns p)) (first-one (candidate p v u) (turns p))
+  start-one u = at (free p v u) (first (candidate p v u) (dispatch-order p)) (first-one (candidate p v u) (dispatch-order p))
     where
       at : (b : Bool) (zs : List ℕ) → Upto-one zs → Upto-one (if b then map (start-at t) zs else [])
       at true [] o = tt
@@ -68,7 +68,7 @@ module _ (p : Lines) (v : View) (t : ℕ) where
   unfolding pending
   pending-differ n =
       different-append (map (condition-row p) tell) (map (edge-row p) send)
-      (different-map (condition-row p) (λ a b q. omega arith) tell (keep-different (waits-to-tell p v n) (conditions p) (different-upfrom 0 (length (p .conditions)))))
+      (different-map (condition-row p) (λ a b q. omega arith) tell (keep-different (waits-to-broadcast p v n) (conditions p) (different-upfrom 0 (length (p .conditions)))))
       (different-map (edge-row p) (λ a b q. omega arith) send (keep-different (waits-to-send p v n) (queue p) (queue-once p)))
       (λ r m m′.
       let a = map-in (condition-row p) tell m in
@@ -77,7 +77,7 @@ module _ (p : Lines) (v : View) (t : ℕ) where
       omega (arith, sym (a .2) ∙ b .2))
     where
       tell : List ℕ
-      tell = keep (waits-to-tell p v n) (conditions p)
+      tell = keep (waits-to-broadcast p v n) (conditions p)
 
       send : List ℕ
       send = keep (waits-to-send p v n) (queue p)

@@ -1,5 +1,5 @@
--- What is left to do before a tick, as a number that never grows: of each due row its whole cost while it is not placed, and then the
--- ticks until it is over.
+-- What is left to do before a tick, as a number that never grows: of each due row its whole cost while it is not
+-- placed, and then the ticks until it is over.
 -- Assumes nothing.
 use mathlib.Core.Path.{_≡_, refl, sym, ap, _∙_, subst}
 use mathlib.Core.Logic.{_⊎_, inl, inr}

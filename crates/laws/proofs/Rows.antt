@@ -1,4 +1,5 @@
--- Rows: what is due of a process's, an edge's and a condition's row, who sends it and how long it lasts; and what a log says of a row.
+-- Rows: what is due of a process's, an edge's and a condition's row, who sends it and how long it lasts; and what a log
+-- says of a row.
 -- Assumes nothing.
 use mathlib.Core.Path.{_≡_, refl, ap, _∙_, subst}
 use mathlib.Core.Logic.{_⊎_, inl, inr}

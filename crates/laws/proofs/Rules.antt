@@ -1,4 +1,5 @@
--- The rules that a log keeps, and a table whose met entries keep them in every combination, as records that can be read aloud.
+-- The rules that a log keeps, and a table whose met entries keep them in every combination, as records that can be read
+-- aloud.
 -- Planning keeps the rules (Safety), a sound table does (Sound), and a run uses them (Demand).
 -- Assumes nothing.
 use mathlib.Core.Path.{_≡_}
@@ -39,7 +40,8 @@ pub record Kept (p : Lines) (c : List Bool) (log : Log) : Type 0 where
   pub no-share : (x y : Placed) → Item p log x → Item p log y → x .tick ≡ y .tick → row-node p (x .row) ≡ row-node p (y .row) → (x .row ≡ y .row → ⊥) →
       (x .place + row-bytes p (x .row) ≤ y .place) ⊎ (y .place + row-bytes p (y .row) ≤ x .place)
 
--- In every combination the met entries keep the rules, everything due is among them, and columns name only what is known.
+-- In every combination the met entries keep the rules, everything due is among them, and columns name only what is
+-- known.
 pub record Lawful (p : Lines) (es : List Entry) (stated : ℕ) : Type 0 where
   pub formed : (e : Entry) → In e es → ill-formed p e ≡ false
   pub keeps : (c : List Bool) → length c ≡ length (p .conditions) → Kept p c (met-log es c)

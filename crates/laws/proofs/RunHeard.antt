@@ -1,5 +1,5 @@
--- In a run by a table that keeps the rules every item is sent when it is ready: each counts, what is heard is what the table says is known,
--- and what has delivered by the table has delivered in the run.
+-- In a run by a table that keeps the rules every item is sent when it is ready: each counts, what is heard is what the
+-- table says is known, and what has delivered by the table has delivered in the run.
 -- Assumes nothing.
 use mathlib.Core.Path.{_≡_, sym, ap, _∙_, subst}
 use mathlib.Core.Logic.{_⊎_, inl, inr}

@@ -1,4 +1,5 @@
--- One tick of a run by a lawful table: where what is heard is what the table says, the log gains exactly the met entries of that tick.
+-- One tick of a run by a lawful table: where what is heard is what the table says, the log gains exactly the met
+-- entries of that tick.
 -- Assumes nothing.
 use mathlib.Core.Path.{_≡_, refl, sym, ap, _∙_}
 use mathlib.Core.Bool.{Bool, true, false, _&&_}

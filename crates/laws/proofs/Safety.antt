@@ -93,8 +93,8 @@ module _ (p : Lines) (c : List Bool) (g : Good p) (count : length c ≡ length (
 abbrev Beside : Lines → Placed → Placed → Type 0
 Beside p x y = (x .place + row-bytes p (x .row) ≤ y .place) ⊎ (y .place + row-bytes p (y .row) ≤ x .place)
 
-abbrev In-turn : Lines → Placed → Placed → Type 0
-In-turn p x y = (x .tick + process p (x .row) .ticks ≤ y .tick) ⊎ (y .tick + process p (y .row) .ticks ≤ x .tick)
+abbrev In-dispatch-order : Lines → Placed → Placed → Type 0
+In-dispatch-order p x y = (x .tick + process p (x .row) .ticks ≤ y .tick) ⊎ (y .tick + process p (y .row) .ticks ≤ x .tick)
 
 pack-apart : (p : Lines) (size t at : ℕ) (rs : List ℕ) (x y : Placed) → In x (pack p size t at rs) → In y (pack p size t at rs) → (x .row ≡ y .row → ⊥) → Beside p x y
 unfolding pack
@@ -177,14 +177,14 @@ module _ (p : Lines) (c : List Bool) (g : Good p) (count : length c ≡ length (
       let w = z .3 in
       omega (arith, full-tick p (x .row), process-span p (full-ticks p) (x .row) (a .low), ap (λ (v : Placed). v .tick) same)
 
-  no-overlap : (x y : Placed) → Start p log x → Start p log y → unit p (x .row) ≡ unit p (y .row) → (x .row ≡ y .row → ⊥) → In-turn p x y
+  no-overlap : (x y : Placed) → Start p log x → Start p log y → unit p (x .row) ≡ unit p (y .row) → (x .row ≡ y .row → ⊥) → In-dispatch-order p x y
   no-overlap x y a b q d = at (two (eqb (x .tick) (y .tick)))
     where
-      apart : (x .tick < y .tick) ⊎ (y .tick < x .tick) → In-turn p x y
+      apart : (x .tick < y .tick) ⊎ (y .tick < x .tick) → In-dispatch-order p x y
       apart (inl l) = inl (one-after x y a b q l)
       apart (inr l) = inr (one-after y x b a (sym q) l)
 
-      at : (eqb (x .tick) (y .tick) ≡ true) ⊎ (eqb (x .tick) (y .tick) ≡ false) → In-turn p x y
+      at : (eqb (x .tick) (y .tick) ≡ true) ⊎ (eqb (x .tick) (y .tick) ≡ false) → In-dispatch-order p x y
       at (inl e) =
           absurd (d (ap (λ (z : Placed). z .row)
           (one-start p (view-at p c (x .tick)) (x .tick) x y (was-started p c t x (a .member) (a .low))

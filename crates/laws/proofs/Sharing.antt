@@ -1,5 +1,5 @@
--- What the plans of two combinations share that differ in one condition: all that is placed before its value arrives. What was placed before a tick, and
--- which values were known then, can be read off the finished plan.
+-- What the plans of two combinations share that differ in one condition: all that is placed before its value arrives.
+-- What was placed before a tick, and which values were known then, can be read off the finished plan.
 -- Assumes nothing.
 use mathlib.Core.Path.{_≡_, refl, sym, ap, _∙_, subst}
 use mathlib.Core.Logic.{_⊎_, inl, inr}

@@ -1,4 +1,5 @@
--- The bus: a node has one slot, `first-beginning` is the first beginning of it at or after a tick, and at most one slot begins at a tick.
+-- The bus: a node has one slot, `first-beginning` is the first beginning of it at or after a tick, and at most one slot
+-- begins at a tick.
 -- Assumes nothing.
 use mathlib.Core.Path.{_≡_, refl, sym, ap, _∙_, subst}
 use mathlib.Core.Logic.{_⊎_, inl, inr}

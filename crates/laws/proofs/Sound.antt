@@ -76,8 +76,8 @@ module _ (p : Lines) (es : List Entry) (g : Good p) (formed : (e : Entry) → In
     meets-all e l x m q =
         both (active p c (edge p e .from)) _ (both (carries p c e) (not (local p e)) (sym (edge-due p c e l) ∙ ap (due p c) (sym q) ∙ only-due x m .1) .0) .1
 
-  -- A conditional message is sent only once its value is known: if the column did not name the condition, the entry would be met with
-  -- the other value too, where it is not due.
+  -- A conditional message is sent only once its value is known: if the column did not name the condition, the entry
+  -- would be met with the other value too, where it is not due.
   module _ (c : List Bool) (cl : length c ≡ length (p .conditions)) where
     when-met : (x : Placed) → In x (met-log es c) → (e : ℕ) → e < length (p .edges) → x .row ≡ edge-row p e → meets (known-by p c (met-log es c) (x .tick)) (edge p e .when) ≡ true
     unfolding column-met

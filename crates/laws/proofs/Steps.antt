@@ -18,7 +18,7 @@ use Rattle.model.specs.Plan.{Lines, Slot, process, processes, edge, edges, deci
 use Rattle.model.specs.Activity.{meets, may-run}
 use Rattle.model.specs.Bus.{beginning, edge-row, condition-row, row-node, sender, row-bytes}
 use Rattle.model.specs.Log.{Placed, Log, placed, known, message-ready, broadcast-ready}
-use Rattle.model.specs.Planning.{View, view, weights, turns, queue, ready, occupies, free, candidate, start-at, unit-starts, starts, waits-to-tell, waits-to-send, pending, pack, takes, sends, step, before}
+use Rattle.model.specs.Planning.{View, view, weights, dispatch-order, queue, ready, occupies, free, candidate, start-at, unit-starts, starts, waits-to-broadcast, waits-to-send, pending, pack, takes, sends, step, before}
 use Rattle.laws.proofs.Rows.{edge-sender, condition-sender, edge-node, condition-node}
 
 -- what is started at a tick
@@ -62,13 +62,13 @@ pub record Taken (p : Lines) (v : View) (t : ℕ) (x : Placed) : Type 0 where
 
 -- the turns are the processes, the queue is the edges
 module _ (p : Lines) where
-  turns-in : {i : ℕ} → In i (turns p) → i < length (p .processes)
-  unfolding turns
-  turns-in m = below-in (length (p .processes)) (sort-in (λ i. getD (weights p) i 0) (processes p) m)
+  dispatch-order-in : {i : ℕ} → In i (dispatch-order p) → i < length (p .processes)
+  unfolding dispatch-order
+  dispatch-order-in m = below-in (length (p .processes)) (sort-in (λ i. getD (weights p) i 0) (processes p) m)
 
-  pub in-turns : (i : ℕ) → i < length (p .processes) → In i (turns p)
-  unfolding turns
-  in-turns i l = in-sort (λ i. getD (weights p) i 0) (in-below (length (p .processes)) i l)
+  pub in-dispatch-order : (i : ℕ) → i < length (p .processes) → In i (dispatch-order p)
+  unfolding dispatch-order
+  in-dispatch-order i l = in-sort (λ i. getD (weights p) i 0) (in-below (length (p .processes)) i l)
 
   pub queue-in : {e : ℕ} → In e (queue p) → e < length (p .edges)
   unfolding queue
@@ -115,20 +115,20 @@ module _ (p : Lines) (v : View) (n : ℕ) where
   pending-ended r (message e s) = ap (v .over) (edge-sender p e (s .in-range)) ∙ s .ended
 
   abbrev tellers : List ℕ
-  tellers = keep (waits-to-tell p v n) (conditions p)
+  tellers = keep (waits-to-broadcast p v n) (conditions p)
 
   abbrev messages : List ℕ
   messages = keep (waits-to-send p v n) (queue p)
 
   pub pending-in : (r : ℕ) → In r (pending p v n) → Pending p v n r
-  unfolding pending waits-to-tell waits-to-send broadcast-ready message-ready
+  unfolding pending waits-to-broadcast waits-to-send broadcast-ready message-ready
   pending-in r m = at (in-either (map (condition-row p) tellers) m)
     where
       at : In r (map (condition-row p) tellers) ⊎ In r (map (edge-row p) messages) → Pending p v n r
       at (inl u) =
           let s = map-in (condition-row p) tellers u in
           let k : ℕ = s .0 in
-          let f = keep-in (waits-to-tell p v n) (conditions p) (s .1) in
+          let f = keep-in (waits-to-broadcast p v n) (conditions p) (s .1) in
           let a = both _ (v .over (decider p k)) (f .1) in
           let b = both (eqb (process p (decider p k) .node) n) (not (v .placed (condition-row p k))) (a .0) in
           subst (Pending p v n) (sym (s .2))
@@ -152,11 +152,11 @@ module _ (p : Lines) (v : View) (n : ℕ) where
           }))
 
   pub in-pending : (r : ℕ) → Pending p v n r → In r (pending p v n)
-  unfolding pending waits-to-tell waits-to-send broadcast-ready message-ready
+  unfolding pending waits-to-broadcast waits-to-send broadcast-ready message-ready
   in-pending r (broadcast k s) =
       in-left (map (edge-row p) messages)
       (in-map (condition-row p)
-      (in-keep (waits-to-tell p v n) (in-below (length (p .conditions)) k (s .in-range))
+      (in-keep (waits-to-broadcast p v n) (in-below (length (p .conditions)) k (s .in-range))
       (join _ _ (join _ _ (eq-eqb _ _ (s .on-node)) (is-not _ (s .unplaced))) (s .ended))))
   in-pending r (message e s) =
       in-right (map (condition-row p) tellers)
@@ -201,15 +201,15 @@ module _ (p : Lines) (v : View) (t : ℕ) where
   unfolding unit-starts candidate
   unit-starts-in u x w m =
       let f = if-in (free p v u) _ m in
-      let s = map-in (start-at t) (first (candidate p v u) (turns p)) (f .1) in
+      let s = map-in (start-at t) (first (candidate p v u) (dispatch-order p)) (f .1) in
       let i : ℕ = s .0 in
-      let k = first-in (candidate p v u) (turns p) (s .1) in
+      let k = first-in (candidate p v u) (dispatch-order p) (s .1) in
       let a = both _ (ready p v i) (k .1) in
       let b = both (eqb (unit p i) u) (not (v .placed i)) (a .0) in
       let q : unit p i ≡ u = eqb-true _ _ (b .0) in
       let st : Started p v t (start-at t i) =
       record {
-        row-in = turns-in p (k .0);
+        row-in = dispatch-order-in p (k .0);
         now = refl;
         first-place = refl;
         unplaced = not-true _ (b .1);
@@ -229,7 +229,7 @@ module _ (p : Lines) (v : View) (t : ℕ) where
       (x : Placed) × In x (starts p v t) × (unit p (x .row) ≡ unit p i)
   unfolding starts unit-starts candidate
   in-starts i l m fr un rd =
-      let z = first-some (candidate p v (unit p i)) (turns p) (in-turns p i l) (join _ _ (join _ _ (eq-eqb (unit p i) (unit p i) refl) (is-not _ un)) rd) in
+      let z = first-some (candidate p v (unit p i)) (dispatch-order p) (in-dispatch-order p i l) (join _ _ (join _ _ (eq-eqb (unit p i) (unit p i) refl) (is-not _ un)) rd) in
       let x : Placed = start-at t (z .0) in
       let n : In x (unit-starts p v t (unit p i)) = rw fr (in-map (start-at t) (z .1)) in
       (x, in-each (unit-starts p v t) m n, unit-starts-in (unit p i) x m n .1)

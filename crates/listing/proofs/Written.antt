@@ -13,12 +13,12 @@ use Rattle.model.specs.Listing.{words-listing}
 use Rattle.plan.specs.declared.Plan.{Plan}
 use Rattle.plan.specs.Memory.{lines}
 use Rattle.plan.proofs.Counted.{counted-length}
-use Rattle.text.specs.Put.{Put}
-use Rattle.listing.specs.declared.Listed.the-variants.{Wrote, Refused}
+use Rattle.text_lines.specs.Put.{Put}
+use Rattle.listing.specs.declared.writer.Listed.the-variants.{Wrote, Refused}
 use Rattle.listing.specs.Answer.{written-of, answer-of}
-use Rattle.store.specs.Fits.{Fits}
-use Rattle.listing_parts.specs.Parts.{listing-of}
-use Rattle.listing_parts.proofs.Lines.{listing-same}
+use Rattle.listing_bytes.specs.Fits.{Fits}
+use Rattle.listing_count.specs.Parts.{listing-of}
+use Rattle.listing_count.proofs.Lines.{listing-same}
 
 pub lent-less : (lent : ℕ) (bytes : List ℕ) → lent < length bytes → written-of lent bytes ≡ not-written 10
 unfolding written-of unless-refused fitting

@@ -5,8 +5,8 @@ use mathlib.Core.List.{List}
 use lib.ListN.{length}
 use Rattle.model.specs.Text.{wrote, not-written, unless-refused, fitting}
 use Rattle.model.specs.Text as m
-use Rattle.listing.specs.declared.Listed.{Listed}
-use Rattle.listing.specs.declared.Listed.the-variants.{Wrote, Refused}
+use Rattle.listing.specs.declared.writer.Listed.{Listed}
+use Rattle.listing.specs.declared.writer.Listed.the-variants.{Wrote, Refused}
 
 -- a text put into as many bytes as are lent: 10 is the only refusal
 unfoldable pub written-of : ℕ → List ℕ → m.Written

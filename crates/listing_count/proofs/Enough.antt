@@ -6,7 +6,7 @@ use Prim.Native.Nat.{ℕ, _≤_}
 use lib.Dec.{leb}
 use borrow.Author.Tests.{leb-true}
 use Rattle.lists.proofs.Tests.{both}
-use Rattle.listing_parts.specs.Parts.{most-bytes}
+use Rattle.listing_count.specs.Parts.{most-bytes}
 use Rattle.listing_count.specs.Ample.{ample}
 
 pub ample-enough : (lent conditions words framewords : ℕ) → ample lent conditions words framewords ≡ true → (conditions ≤ 6) × (most-bytes words framewords ≤ lent)

@@ -1,22 +1,18 @@
-// How many bytes a listing needs, counted line by line with no store: each function takes a room, and answers what its text leaves of it,
-// or 0 where the text needs more. Nothing is counted where the lent bytes suffice for any listing of as many words.
+// How many bytes a listing needs, counted line by line with no store: each function takes a room, and answers what its
+// text leaves of it, or 0 where the text needs more. Nothing is counted where the lent bytes suffice for any listing of
+// as many words.
+// Document 01: "a written text more bytes, than lent"
+use arrays::difference_usize;
+use limits::CONDITIONS;
+use limits::LASTCLOCK;
 ghost use mathlib.Core.Path.{_≡_};
 ghost use Prim.Native.Nat.{_-_, _≤_};
 ghost use lib.Dec.{ltb};
 ghost use lib.ListN.{length};
 ghost use Rattle.model.specs.Text.{text, decimal};
-ghost use Rattle.listing_parts.specs.Parts.{value-at, values-from, start-of, item-of, entry-of, entries-text, frame-of, frames-text, listing-of};
+ghost use Rattle.listing_count.specs.Parts.{value-at, values-from, start-of, item-of, entry-of, entries-text};
+ghost use Rattle.listing_count.specs.Parts.{frame-of, frames-text, listing-of};
 ghost use Rattle.listing_count.specs.Ample.{ample};
-
-// What is left of a room that n bytes are taken from.
-fn less(room: usize, n: usize) -> usize
-    ensures { λ r. ⌜ r ≡ room - n ⌝ }
-{
-    if room < n {
-        return 0;
-    }
-    room - n
-}
 
 // How many decimal digits a number has.
 pub fn digits(n: u32) -> usize
@@ -46,7 +42,7 @@ pub fn digits(n: u32) -> usize
     if n < 100000000 {
         return 8;
     }
-    if n < 1000000000 {
+    if n < LASTCLOCK {
         return 9;
     }
     10
@@ -60,9 +56,9 @@ fn value_room(room: usize, known: u32, values: u32, k: u32) -> usize
         return room;
     }
     if values % 2 == 0 {
-        return less(room, 9 + digits(k));
+        return difference_usize(room, 9 + digits(k));
     }
-    less(room, 8 + digits(k))
+    difference_usize(room, 8 + digits(k))
 }
 
 // The room after the conditions of a column.
@@ -90,7 +86,7 @@ fn start_room(room: usize, conditions: usize, row: u32, known: u32, values: u32,
     ensures { λ r. ⌜ r ≡ room - length (start-of conditions row known values tick) ⌝ }
 {
     let column = values_room(room, conditions, known, values);
-    less(column, 22 + digits(row) + digits(tick))
+    difference_usize(column, 22 + digits(row) + digits(tick))
 }
 
 // The room after the line of an edge or a condition: their first words are of one length.
@@ -106,7 +102,7 @@ fn item_room(
     ensures { λ r. ⌜ r ≡ room - length (item-of (text "(send ") conditions number known values tick place) ⌝ }
 {
     let column = values_room(room, conditions, known, values);
-    less(column, 30 + digits(number) + digits(tick) + digits(place))
+    difference_usize(column, 30 + digits(number) + digits(tick) + digits(place))
 }
 
 // The room after the line of an entry.
@@ -180,7 +176,7 @@ fn entries_room(
 fn frame_room(room: usize, tick: u32, node: u32, used: u32) -> usize
     ensures { λ r. ⌜ r ≡ room - length (frame-of tick node used) ⌝ }
 {
-    less(room, 26 + digits(tick) + digits(node) + digits(used))
+    difference_usize(room, 26 + digits(tick) + digits(node) + digits(used))
 }
 
 // The room after the lines of a frame list.
@@ -197,12 +193,13 @@ fn frames_room(room: usize, frames: &[u32]) -> usize
     left
 }
 
-// The lent bytes suffice for any listing of so many words, at most a million of each kind, for a plan of at most six conditions: an entry's line has at most 120
-// bytes, a frame's at most 56, the first two lines at most 39. Where this answers no they may suffice all the same.
+// The lent bytes suffice for any listing of so many words, at most a million of each kind, for a plan of at most six
+// conditions: an entry's line has at most 120 bytes, a frame's at most 56, the first two lines at most 39. Where this
+// answers no they may suffice all the same.
 fn suffice(lent: usize, conditions: usize, words: usize, framewords: usize) -> bool
     ensures { λ r. ⌜ r ≡ ample lent conditions words framewords ⌝ }
 {
-    if 6 < conditions {
+    if CONDITIONS < conditions {
         return false;
     }
     if 1000000 < words {
@@ -228,7 +225,8 @@ pub fn exceeds<'a>(
     table: &'a [u32],
     frames: &'a [u32],
 ) -> bool
-    ensures { λ r. ⌜ r ≡ ltb lent (length (listing-of processes edges conditions delay passed (now (table .entry)) (now (frames .entry)))) ⌝ }
+    ensures { λ r. ⌜ r ≡ ltb lent (length (listing-of processes edges conditions delay passed (now (table .entry))
+        (now (frames .entry)))) ⌝ }
 {
     if suffice(lent, conditions, table.len(), frames.len()) {
         return false;

@@ -4,9 +4,9 @@ use Prim.Native.Nat.{ℕ, _+_, _≤_, _<_}
 use mathlib.Core.Path.{_≡_}
 use mathlib.Core.List.{List, _++_}
 use lib.ListN.{length, drop, getD}
-use Rattle.store.specs.Going.{Going}
-use Rattle.listing_parts.specs.Parts.{values-from, entry-of, entries-text}
-use Rattle.entry_lines.specs.Lines.{begin-of}
+use Rattle.listing_bytes.specs.Going.{Going}
+use Rattle.listing_count.specs.Parts.{values-from, entry-of, entries-text}
+use Rattle.listing_entries.specs.Lines.{begin-of}
 
 -- how the lines of a row that the plan has begin
 pub record Begun (processes edges conditions row : ℕ) (begin : List ℕ) : Type 0 where

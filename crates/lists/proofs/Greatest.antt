@@ -1,4 +1,5 @@
--- A loop that takes the greatest of a function over the numbers below n that pass a test: with what is left it gives the whole.
+-- A loop that takes the greatest of a function over the numbers below n that pass a test: with what is left it gives
+-- the whole.
 -- Assumes nothing.
 use mathlib.Core.Path.{_≡_, refl, sym, ap, _∙_}
 use mathlib.Core.Bool.{Bool, true, false}

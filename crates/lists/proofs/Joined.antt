@@ -1,4 +1,5 @@
--- Lists joined one after another: joined from the left they are those joined from the right, and equal parts make equal wholes.
+-- Lists joined one after another: joined from the left they are those joined from the right, and equal parts make equal
+-- wholes.
 -- Assumes nothing.
 use mathlib.Core.Path.{_≡_, refl, sym, _∙_}
 use mathlib.Core.List.{List, [], _∷_, _++_, append-assoc, append-nil}

@@ -1,6 +1,6 @@
--- A loop over the numbers below n. What is left of them goes by one, and is nothing at the end. A loop that looks for the first that
--- passes a test: "what is left gives the whole answer" holds at the start, goes on past a number that fails, and settles the answer where
--- one passes or none is left.
+-- A loop over the numbers below n. What is left of them goes by one, and is nothing at the end. A loop that looks for
+-- the first that passes a test: "what is left gives the whole answer" holds at the start, goes on past a number that
+-- fails, and settles the answer where one passes or none is left.
 -- Assumes nothing.
 use mathlib.Core.Path.{_≡_, ap, _∙_}
 use mathlib.Core.Bool.{Bool, true, false}

@@ -1,5 +1,5 @@
--- Numbers found twice by marks: an array that holds 1 at each number seen so far, and 0 elsewhere. And a list has a number twice if the
--- number at some place stands earlier.
+-- Numbers found twice by marks: an array that holds 1 at each number seen so far, and 0 elsewhere. And a list has a
+-- number twice if the number at some place stands earlier.
 -- Assumes nothing.
 use mathlib.Core.Path.{_≡_, refl, sym, ap, _∙_}
 use mathlib.Core.Logic.{_⊎_, inl, inr}

@@ -1,4 +1,5 @@
--- What is left of a list from a place on, a part in the middle of lists joined, a part after a store before, behind or at its end, numbers in two runs, and how many a test keeps.
+-- What is left of a list from a place on, a part in the middle of lists joined, a part after a store before, behind or
+-- at its end, numbers in two runs, and how many a test keeps.
 -- Assumes nothing.
 use mathlib.Core.Path.{_≡_, sym, ap, _∙_}
 use mathlib.Core.Logic.{_⊎_, inl, inr}

@@ -1,4 +1,5 @@
--- A list by its places: a test over its members, and a number that stands twice, are those over the numbers below its length.
+-- A list by its places: a test over its members, and a number that stands twice, are those over the numbers below its
+-- length.
 -- Assumes nothing.
 use mathlib.Core.Path.{_≡_, sym, ap, _∙_}
 use mathlib.Core.Bool.{Bool}

@@ -1,4 +1,5 @@
--- A run of stores: of one list after another, of a list at the front, what stands where afterwards, and a list stored one by one.
+-- A run of stores: of one list after another, of a list at the front, what stands where afterwards, and a list stored
+-- one by one.
 -- Assumes nothing.
 use mathlib.Core.Path.{_≡_, refl, sym, ap, _∙_}
 use mathlib.Core.List.{List, [], _∷_, _++_, append-nil}
@@ -57,7 +58,8 @@ sets-at xs i (v ∷ vs) (suc n) l r =
     let q : i + suc n ≡ suc i + n = omega arith in
     ap (λ (j : ℕ). getD (sets (set xs i v) (suc i) vs) j 0) q ∙ sets-at (set xs i v) (suc i) vs n (omega arith) (omega (arith, length-set xs i v))
 
--- a list stored one by one: before turn r what is left to store gives the whole, and after the last turn nothing is left
+-- a list stored one by one: before turn r what is left to store gives the whole, and after the last turn nothing is
+-- left
 pub stores-next : {A : Type 0} (d : A) (xs : List A) (at r : ℕ) (all : List A) {whole : List A} → r < length xs → sets all (at + r) (drop r xs) ≡ whole →
     sets (set all (at + r) (getD xs r d)) (at + (r + 1)) (drop (r + 1) xs) ≡ whole
 stores-next d xs at r all l e =

@@ -7,7 +7,8 @@ use lib.ListN.{length, getD}
 use Rattle.lists.specs.Lists.{if_then_else_, any, all, null, each}
 use Rattle.model.specs.Plan.{Lines, Waits, waits-all, waits-any, When, always, on, process, edge, into}
 
--- "A combination gives every condition true or false": a list of Bool, condition 0 first. All of them, ascending, condition 0 lowest.
+-- "A combination gives every condition true or false": a list of Bool, condition 0 first. All of them, ascending,
+-- condition 0 lowest.
 abbrev pub combinations-of : ℕ → List (List Bool)
 combinations-of zero = [] ∷ []
 combinations-of (suc n) = each (λ c. (false ∷ c) ∷ (true ∷ c) ∷ []) (combinations-of n)
@@ -41,7 +42,8 @@ abbrev pub meets : List Heard → When → Bool
 meets h always = true
 meets h (on v k) = is (getD h k unheard) v
 
--- "A process with no edge into it [..] counts as `all`": a process goes by `any` if its line says so and an edge leads into it.
+-- "A process with no edge into it [..] counts as `all`": a process goes by `any` if its line says so and an edge leads
+-- into it.
 abbrev pub says-any : Waits → Bool
 says-any waits-all = false
 says-any waits-any = true
@@ -49,12 +51,13 @@ says-any waits-any = true
 unfoldable pub conjunction : Lines → ℕ → Bool
 conjunction p i = says-any (process p i .waits) && not (null (into p i))
 
--- "An edge carries if its from process is active and its `when` is met", as far as is known. `done` has the answers for the
--- processes before.
+-- "An edge carries if its from process is active and its `when` is met", as far as is known. `done` has the answers for
+-- the processes before.
 unfoldable pub may-carry : Lines → List Heard → List Bool → ℕ → Bool
 may-carry p h done e = getD done (edge p e .from) false && may-meet h (edge p e .when)
 
--- "A process with no edge into it is active [..]; another is active if all (`all`) or at least one (`any`) of its edges carry."
+-- "A process with no edge into it is active [..]; another is active if all (`all`) or at least one (`any`) of its edges
+-- carry."
 unfoldable pub runs-next : Lines → List Heard → List Bool → ℕ → Bool
 runs-next p h done i = if conjunction p i then any (may-carry p h done) (into p i) else all (may-carry p h done) (into p i)
 

@@ -31,8 +31,8 @@ offset-among p (s ∷ ss) n = if eqb (s .node) n then 0 else slot-ticks p s + of
 unfoldable pub offset : Lines → ℕ → ℕ
 offset p n = offset-among p (p .slots) n
 
--- The first beginning of a node's slot at or after a tick, "round 0 begins at tick 0": in the round of the tick if that is not past,
--- or else in the next.
+-- The first beginning of a node's slot at or after a tick, "round 0 begins at tick 0": in the round of the tick if that
+-- is not past, or else in the next.
 unfoldable pub first-beginning : Lines → ℕ → ℕ → ℕ
 first-beginning p n t =
     let gone : ℕ = t % round p in

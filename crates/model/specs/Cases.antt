@@ -1,5 +1,5 @@
--- The worked cases of document 01 and some of our own, gathered in tables with one theorem: what the definitions compute is what is
--- stated. Must-fail edits of a definition are refused here.
+-- The worked cases of document 01 and some of our own, gathered in tables with one theorem: what the definitions
+-- compute is what is stated. Must-fail edits of a definition are refused here.
 -- Assumes nothing.
 use Prim.Native.Nat.{ℕ, _+_, _*_}
 use mathlib.Core.Path.{_≡_, refl}
@@ -21,8 +21,8 @@ use Rattle.model.specs.Run.{run-before}
 use Rattle.model.specs.Demand.{starts-of}
 use Rattle.model.specs.Open.{computing}
 
--- What is asked of a plan, a table or the first 40 ticks of a run: the answer is bytes, words or ticks, or a number (0 where nothing is
--- refused).
+-- What is asked of a plan, a table or the first 40 ticks of a run: the answer is bytes, words or ticks, or a number (0
+-- where nothing is refused).
 pub data Question : Type 0 where
   prints : Lines → Question
   lists : Lines → Question
@@ -116,7 +116,8 @@ words-S =
 abbrev pub edited : ℕ → ℕ → ℕ → List ℕ
 edited e f v = set words-S (5 * e + f) v
 
--- "Byte 1, slots 4 (node 0) and 1 (node 1), process 0 of 1 tick on node 0 sending 3, 2 and 1 bytes to three processes of 2 ticks on node 1"
+-- "Byte 1, slots 4 (node 0) and 1 (node 1), process 0 of 1 tick on node 0 sending 3, 2 and 1 bytes to three processes
+-- of 2 ticks on node 1"
 abbrev pub packing : Lines
 packing =
     record {
@@ -181,7 +182,8 @@ starred =
 -- "Where a planner goes astray", and the readings of docs/DECISIONS.md that change a table.
 abbrev pub planning : List Case
 planning =
-    -- one process alone; two on a node, by urgency and by number; of one urgency the lower number goes first, the other when it has ended
+    -- one process alone; two on a node, by urgency and by number; of one urgency the lower number goes first, the other
+    -- when it has ended
     case (lists (one-node by-urgency (all-of 0 7 ∷ []))) (list (text "(delay 7)\n(passed 0)\n(start 0 (when) (at 0))\n"))
     ∷ case (lists (one-node by-urgency (all-of 0 1 ∷ all-of 0 5 ∷ []))) (list (text "(delay 6)\n(passed 0)\n(start 0 (when) (at 5))\n(start 1 (when) (at 0))\n"))
     ∷ case (lists (one-node by-number (all-of 0 1 ∷ all-of 0 5 ∷ []))) (list (text "(delay 6)\n(passed 0)\n(start 0 (when) (at 0))\n(start 1 (when) (at 1))\n"))
@@ -199,7 +201,8 @@ planning =
     -- a message is sent though its receiver does not run; ties go to the lower process and the lower edge
     ∷ case (lists (deciding 1 1 (all-of 0 1 ∷ all-of 0 1 ∷ all-of 1 1 ∷ []) (0 ∷ []) (arc 0 2 1 (on true 0) ∷ arc 1 2 1 always ∷ [])))
     (list (text "(delay 8)\n(passed 3)\n(start 0 (when) (at 0))\n(start 1 (when) (at 1))\n(start 2 (when (true 0)) (at 7))\n(send 0 (when (true 0)) (at 4) (place 0))\n(send 1 (when (false 0)) (at 4) (place 0))\n(send 1 (when (true 0)) (at 6) (place 0))\n(tell 0 (when) (at 2) (place 0))\n(frame 2 (node 0) (bytes 1))\n(frame 4 (node 0) (bytes 1))\n(frame 6 (node 0) (bytes 1))\n"))
-    -- pass-overs count slots, not items: three messages of 2 bytes and a slot of 2; and they count after the last process has ended
+    -- pass-overs count slots, not items: three messages of 2 bytes and a slot of 2; and they count after the last
+    -- process has ended
     ∷ case (passes (plain by-urgency 2 1 (all-of 0 1 ∷ all-of 1 1 ∷ all-of 1 1 ∷ all-of 1 1 ∷ []) (arc 0 1 2 always ∷ arc 0 2 2 always ∷ arc 0 3 2 always ∷ []))) (number 2)
     ∷ case (passes (deciding 1 4 (all-of 0 1 ∷ all-of 0 1 ∷ []) (0 ∷ 1 ∷ []) [])) (number 4)
     ∷ case (worst (deciding 1 4 (all-of 0 1 ∷ all-of 0 1 ∷ []) (0 ∷ 1 ∷ []) [])) (number 2)
@@ -236,14 +239,15 @@ answers =
     ∷ case (row words-S 5) (list [])
     ∷ case (row (3 ∷ 0 ∷ 0 ∷ 0 ∷ 0 ∷ 0 ∷ 0 ∷ 0 ∷ 0 ∷ 0 ∷ 3 ∷ 0 ∷ 0 ∷ 0 ∷ 1 ∷ []) 3) (list (3 ∷ 0 ∷ 0 ∷ 0 ∷ 0 ∷ []))
     ∷ case (row (0 ∷ 0 ∷ 0 ∷ 0 ∷ 0 ∷ 3 ∷ 0 ∷ 0 ∷ 0 ∷ []) 3) (list [])
-    -- the lookup over bytes: an entry of 20 bytes and 19 stray ones; its bits beyond the known are ignored; a tick, a node, an entry past it
+    -- the lookup over bytes: an entry of 20 bytes and 19 stray ones; its bits beyond the known are ignored; a tick, a
+    -- node, an entry past it
     ∷ case (finds (one-node by-urgency (all-of 0 7 ∷ [])) (replicate 8 0 ++ 7 ∷ replicate 30 0) 0 0 0 0 0) (number 0)
     ∷ case (finds (one-node by-urgency (all-of 0 7 ∷ [])) (replicate 8 0 ++ 7 ∷ replicate 30 0) 0 0 0 0 1) (number 18446744073709551615)
     ∷ case (finds (one-node by-urgency (all-of 0 7 ∷ [])) (replicate 20 0) 1 0 0 0 0) (number 18446744073709551615)
     ∷ case (finds (one-node by-urgency (all-of 0 7 ∷ [])) (replicate 12 0 ++ 0 ∷ 1 ∷ 0 ∷ 0 ∷ replicate 4 0) 0 256 0 0 0) (number 0)
     ∷ case (finds (one-node by-urgency (all-of 0 0 ∷ [])) (replicate 20 0) 0 0 0 0 0) (number 18446744073709551612)
-    -- runs of S: with full ticks, with none, of a process that is not due, of the other value; a broadcast before its decider's end counts
-    -- for nothing, so that its value is never heard
+    -- runs of S: with full ticks, with none, of a process that is not due, of the other value; a broadcast before its
+    -- decider's end counts for nothing, so that its value is never heard
     ∷ case (starts S words-S (true ∷ []) (4 ∷ 3 ∷ 5 ∷ 2 ∷ []) 3) (list (32 ∷ []))
     ∷ case (starts S words-S (true ∷ []) (0 ∷ 0 ∷ 0 ∷ 0 ∷ []) 1) (list (20 ∷ []))
     ∷ case (starts S words-S (true ∷ []) (4 ∷ 3 ∷ 5 ∷ 2 ∷ []) 2) (list [])

@@ -14,8 +14,8 @@ use Rattle.model.specs.Log.{Placed, Log, of-row, full-ticks, over, known
 use Rattle.model.specs.Refusals.{Refusal, nothing, sentence, or-else, plan-refusal}
 use Rattle.model.specs.Table.{Entry, entries-of, known-bits, bits-within, column-met}
 
--- 13: "An entry has no such row, is a local edge's, has known bits without condition, value bits outside the known, tick above
--- 999,999,999, place above 63, or a process's place not 0."
+-- 13: "An entry has no such row, is a local edge's, has known bits without condition, value bits outside the known,
+-- tick above 999,999,999, place above 63, or a process's place not 0."
 unfoldable pub ill-formed : Lines → Entry → Bool
 ill-formed p e =
     leb (rows p) (e .row)
@@ -54,23 +54,23 @@ unfoldable pub not-once : Lines → List Entry → List Bool → Bool
 not-once p es c = let log : Log = met-log es c in any (miscounted p c log) (below (rows p))
 
 -- 15: "a met column uses a value not known by its tick"
-unfoldable pub guesses : Lines → List Bool → Log → Entry → Bool
-guesses p c log e = not (bits-within 32 (e .known) (known-bits (known p c (over p (full-ticks p) log (e .tick)))))
+unfoldable pub column-unknown : Lines → List Bool → Log → Entry → Bool
+column-unknown p c log e = not (bits-within 32 (e .known) (known-bits (known p c (over p (full-ticks p) log (e .tick)))))
 
 unfoldable pub uses-unknown : Lines → List Entry → List Bool → Bool
-uses-unknown p es c = let log : Log = met-log es c in any (guesses p c log) (met-entries es c)
+uses-unknown p es c = let log : Log = met-log es c in any (column-unknown p c log) (met-entries es c)
 
 -- 16: "A process starts before a carrying edge has delivered, or an item before its sender's end."
 unfoldable pub missing : Lines → List Bool → (ℕ → Bool) → ℕ → Bool
 missing p c done e = carries p c e && not (delivered p (known p c done) done e)
 
-unfoldable pub early : Lines → List Bool → Log → Placed → Bool
-early p c log x =
+unfoldable pub placed-early : Lines → List Bool → Log → Placed → Bool
+placed-early p c log x =
     let done : ℕ → Bool = over p (full-ticks p) log (x .tick) in
     if is-process p (x .row) then any (missing p c done) (into p (x .row)) else not (done (sender p (x .row)))
 
 unfoldable pub too-early : Lines → List Entry → List Bool → Bool
-too-early p es c = let log : Log = met-log es c in any (early p c log) log
+too-early p es c = let log : Log = met-log es c in any (placed-early p c log) log
 
 -- 17: "An item's tick is not a beginning of its sender's slot."
 unfoldable pub off-beginning : Lines → Placed → Bool

@@ -26,7 +26,8 @@ pub record Starts (p : Lines) (log : Log) (i s : ℕ) : Type 0 where
 unfoldable pub delivers : Lines → List Bool → List ℕ → Log → ℕ → ℕ → Bool
 delivers p c times log e t = delivered p (hears p c times log t) (over p times (counting p c times log) t) e
 
--- "each process that is due starts once, after its inputs, alone on its unit; none other starts; all end within the stated delay"
+-- "each process that is due starts once, after its inputs, alone on its unit; none other starts; all end within the
+-- stated delay"
 pub record Right (p : Lines) (c : List Bool) (times : List ℕ) (stated : ℕ) (log : Log) : Type 0 where
   pub starts-once : (i : ℕ) → i < length (p .processes) → active p c i ≡ true → (s : ℕ) × (starts-of log i ≡ s ∷ [])
   pub none-other : (i : ℕ) → i < length (p .processes) → active p c i ≡ false → starts-of log i ≡ []
@@ -45,8 +46,9 @@ Answered p words ask =
     (n t h v from : ℕ) → n < length (p .slots) → t < 1000000000 → h < 64 → v < 64 → from ≤ length (entries-of words) →
     ask n t h v from ≡ lookup p words n t h v from
 
--- Demand 3 of a plan, a table's words, a stated delay and the lookup's answers: "for every combination, and whatever time up to its ticks
--- each process takes", the run is right; "If each takes its full ticks, some combination ends exactly at that delay."
+-- Demand 3 of a plan, a table's words, a stated delay and the lookup's answers: "for every combination, and whatever
+-- time up to its ticks each process takes", the run is right; "If each takes its full ticks, some combination ends
+-- exactly at that delay."
 pub record Demand-3 (p : Lines) (words : List ℕ) (stated : ℕ) (ask : Ask) : Type 0 where
   pub right : (c : List Bool) (times : List ℕ) → length c ≡ length (p .conditions) → Within p times →
       Right p c times stated (whole-run p words ask c times)

@@ -23,7 +23,8 @@ column-text p e = text " (when" ++ each (value-text e) (conditions p) ++ text ")
 unfoldable pub place-text : Entry → List ℕ
 place-text e = text " " ++ field "place" (e .place)
 
--- "start, send and tell carry the number of a process, edge or condition that the plan has": a row that the plan lacks has no line.
+-- "start, send and tell carry the number of a process, edge or condition that the plan has": a row that the plan lacks
+-- has no line.
 unfoldable pub entry-line : Lines → Entry → List ℕ
 entry-line p e =
     if is-process p (e .row)
@@ -55,7 +56,8 @@ unfoldable pub printed : Lines → Answer → List ℕ
 printed p (turned-down n) = refused-line n
 printed p (made r) = listing p (r .delay) (r .passed) (r .entries) (r .frames)
 
--- "the planning program, reading standard input and lending 3,000 entries and 2,000 frames, prints", by what its input reads as
+-- "the planning program, reading standard input and lending 3,000 entries and 2,000 frames, prints", by what its input
+-- reads as
 unfoldable pub program-prints : Reading → List ℕ
 program-prints (not-read n) = refused-line n
 program-prints (reads p) = printed p (plan-answer p 15000 6000)

@@ -1,6 +1,6 @@
--- A log: "all starts and items so far with their ticks, items also with their place in the frame". Planning makes one, the entries of
--- a table that a combination meets are one, and a run makes one. What has ended, arrived, become known or been delivered by a tick is
--- read off a log here, once for all three. `times` has the running time of each process.
+-- A log: "all starts and items so far with their ticks, items also with their place in the frame". Planning makes one,
+-- the entries of a table that a combination meets are one, and a run makes one. What has ended, arrived, become known
+-- or been delivered by a tick is read off a log here, once for all three. `times` has the running time of each process.
 -- Assumes nothing.
 use Prim.Native.Nat.{ℕ, _+_}
 use mathlib.Core.Bool.{Bool, false, _&&_}
@@ -40,12 +40,13 @@ span p times r = if is-process p r then getD times r 0 else transit p r
 unfoldable pub over : Lines → List ℕ → Log → ℕ → ℕ → Bool
 over p times log t r = any (λ x. eqb (x .row) r && leb (x .tick + span p times r) t) log
 
--- "on arrival the value is known at every node, the deciding one included, and not before". `done` says which rows are over.
+-- "on arrival the value is known at every node, the deciding one included, and not before". `done` says which rows are
+-- over.
 unfoldable pub known : Lines → List Bool → (ℕ → Bool) → List Heard
 known p c done = map (λ k. if done (condition-row p k) then heard (getD c k false) else unheard) (conditions p)
 
--- "A message that does not depend on a condition is ready at the sender's end, a conditional one when sender's end and known value
--- have both come."
+-- "A message that does not depend on a condition is ready at the sender's end, a conditional one when sender's end and
+-- known value have both come."
 unfoldable pub message-ready : Lines → List Heard → (ℕ → Bool) → ℕ → Bool
 message-ready p h done e = done (edge p e .from) && meets h (edge p e .when)
 

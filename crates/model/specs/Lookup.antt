@@ -11,8 +11,9 @@ use Rattle.model.specs.Bus.{rows, row-node}
 use Rattle.model.specs.Refusals.{Refusal, nothing, refused, plan-refusal}
 use Rattle.model.specs.Table.{Entry, entries-of, bits-met}
 
--- "A row's entries are handed back as the part of the lent table holding them: from the first entry of that row to the next of another
--- row, empty if none; stray last words are ignored." The number of entries before that part, and in it; an empty part is the front.
+-- "A row's entries are handed back as the part of the lent table holding them: from the first entry of that row to the
+-- next of another row, empty if none; stray last words are ignored." The number of entries before that part, and in it;
+-- an empty part is the front.
 unfoldable pub before-row : ℕ → List Entry → ℕ
 before-row r [] = 0
 before-row r (e ∷ es) = elim (eqb (e .row) r) [ true ↦ 0 | false ↦ suc (before-row r es) ]
@@ -30,8 +31,8 @@ row-start words r = if eqb (row-length words r) 0 then 0 else 5 * before-row r (
 unfoldable pub row-part : List ℕ → ℕ → List ℕ
 row-part words r = take (row-length words r) (drop (row-start words r) words)
 
--- "It gives the number of the first entry, from there on, of that node (an edge or broadcast counts to its sender) at that tick whose
--- known bits are all heard, with the heard values at those bits, or none." Or 2 to 9 refuse the plan.
+-- "It gives the number of the first entry, from there on, of that node (an edge or broadcast counts to its sender) at
+-- that tick whose known bits are all heard, with the heard values at those bits, or none." Or 2 to 9 refuse the plan.
 pub data Found : Type 0 where
   entry : ℕ → Found
   none : Found

@@ -35,7 +35,8 @@ pub record Edge : Type 0 where
   pub bytes : ℕ
   pub when : When
 
--- "There is one plan line; slots stand in bus order." `byte` is "ticks per byte on the bus". A condition is the process that it names.
+-- "There is one plan line; slots stand in bus order." `byte` is "ticks per byte on the bus". A condition is the process
+-- that it names.
 -- "Two plans in memory are the same if the lines they stand for are."
 pub record Lines : Type 0 where
   pub byte : ℕ
@@ -45,7 +46,8 @@ pub record Lines : Type 0 where
   pub conditions : List ℕ
   pub edges : List Edge
 
--- "Processes, conditions and edges are numbered from 0 in the order they stand." A number that the plan lacks has an empty line.
+-- "Processes, conditions and edges are numbered from 0 in the order they stand." A number that the plan lacks has an
+-- empty line.
 abbrev pub process : Lines → ℕ → Process
 process p i = getD (p .processes) i (record { node = 0; ticks = 0; waits = waits-all })
 

@@ -12,8 +12,8 @@ use Rattle.model.specs.Activity.{Heard, may-meet, conjunction, may-run}
 use Rattle.model.specs.Bus.{beginning, edge-row, condition-row, row-bytes, round}
 use Rattle.model.specs.Log.{Placed, Log, placed, full-ticks, over, known, message-ready, broadcast-ready, delivered}
 
--- "Urgency of a process: its ticks plus the greatest urgency among those its edges lead to, 0 if none." Edges lead upward, so the
--- list is worked out from its end: the urgencies of n processes from process i on.
+-- "Urgency of a process: its ticks plus the greatest urgency among those its edges lead to, 0 if none." Edges lead
+-- upward, so the list is worked out from its end: the urgencies of n processes from process i on.
 unfoldable pub urgencies-from : Lines → ℕ → ℕ → List ℕ
 urgencies-from p i zero = []
 urgencies-from p i (suc n) =
@@ -23,7 +23,8 @@ urgencies-from p i (suc n) =
 unfoldable pub urgencies : Lines → List ℕ
 urgencies p = urgencies-from p 0 (length (p .processes))
 
--- What the pick goes by, highest first, ties to the lower number: the urgency, or for pick number nothing, which leaves the number.
+-- What the pick goes by, highest first, ties to the lower number: the urgency, or for pick number nothing, which leaves
+-- the number.
 unfoldable pub weights-by : Lines → Pick → List ℕ
 weights-by p by-urgency = urgencies p
 weights-by p by-number = []
@@ -31,16 +32,17 @@ weights-by p by-number = []
 unfoldable pub weights : Lines → List ℕ
 weights p = weights-by p (p .pick)
 
--- the processes in the order in which a free node picks, and the edges in the order in which a slot takes their messages: "by urgency
--- of the receiver, highest first, ties to the lower edge number (pick number: edge number alone)"
-unfoldable pub turns : Lines → List ℕ
-turns p = let w : List ℕ = weights p in sort (λ i. getD w i 0) (processes p)
+-- the processes in the order in which a free node picks, and the edges in the order in which a slot takes their
+-- messages: "by urgency of the receiver, highest first, ties to the lower edge number (pick number: edge number alone)"
+unfoldable pub dispatch-order : Lines → List ℕ
+dispatch-order p = let w : List ℕ = weights p in sort (λ i. getD w i 0) (processes p)
 
 unfoldable pub queue : Lines → List ℕ
 queue p = let w : List ℕ = weights p in sort (λ e. getD w (edge p e .to) 0) (edges p)
 
--- All that planning goes by at a tick, "arrivals first": the values heard, which processes may still run given these, the rows that
--- are over ("'By' and 'ready' include equality throughout"), and the rows placed. Nothing else of the combination is seen.
+-- All that planning goes by at a tick, "arrivals first": the values heard, which processes may still run given these,
+-- the rows that are over ("'By' and 'ready' include equality throughout"), and the rows placed. Nothing else of the
+-- combination is seen.
 pub record View : Type 0 where
   pub heard : List Heard
   pub runs : List Bool
@@ -60,8 +62,8 @@ never p v e = not (may-meet (v .heard) (edge p e .when)) || not (getD (v .runs) 
 unfoldable pub comes : Lines → View → ℕ → Bool
 comes p v e = delivered p (v .heard) (v .over) e
 
--- "An `all` process is ready when every edge into it has delivered. An `any` process is ready when at least one has and each that has
--- not is known never to".
+-- "An `all` process is ready when every edge into it has delivered. An `any` process is ready when at least one has and
+-- each that has not is known never to".
 unfoldable pub ready : Lines → View → ℕ → Bool
 ready p v i =
     if conjunction p i
@@ -83,14 +85,15 @@ abbrev pub start-at : ℕ → ℕ → Placed
 start-at t i = record { row = i; tick = t; place = 0 }
 
 unfoldable pub unit-starts : Lines → View → ℕ → ℕ → Log
-unit-starts p v t u = if free p v u then map (start-at t) (first (candidate p v u) (turns p)) else []
+unit-starts p v t u = if free p v u then map (start-at t) (first (candidate p v u) (dispatch-order p)) else []
 
 unfoldable pub starts : Lines → View → ℕ → Log
 starts p v t = each (unit-starts p v t) (units p)
 
--- "At its beginning a slot takes items of its node ready by that tick": a broadcast of the node that waits, and a message.
-unfoldable pub waits-to-tell : Lines → View → ℕ → ℕ → Bool
-waits-to-tell p v n k = eqb (process p (decider p k) .node) n && not (v .placed (condition-row p k)) && broadcast-ready p (v .over) k
+-- "At its beginning a slot takes items of its node ready by that tick": a broadcast of the node that waits, and a
+-- message.
+unfoldable pub waits-to-broadcast : Lines → View → ℕ → ℕ → Bool
+waits-to-broadcast p v n k = eqb (process p (decider p k) .node) n && not (v .placed (condition-row p k)) && broadcast-ready p (v .over) k
 
 unfoldable pub waits-to-send : Lines → View → ℕ → ℕ → Bool
 waits-to-send p v n e =
@@ -99,10 +102,10 @@ waits-to-send p v n e =
 -- "A slot takes pending broadcasts first, lowest condition number first; then messages".
 unfoldable pub pending : Lines → View → ℕ → List ℕ
 pending p v n =
-    map (condition-row p) (keep (waits-to-tell p v n) (conditions p)) ++ map (edge-row p) (keep (waits-to-send p v n) (queue p))
+    map (condition-row p) (keep (waits-to-broadcast p v n) (conditions p)) ++ map (edge-row p) (keep (waits-to-send p v n) (queue p))
 
--- "An item that does not fit the bytes left is passed over and the next is tried. Items lie side by side from byte 0." `at` is the
--- first byte that is left.
+-- "An item that does not fit the bytes left is passed over and the next is tried. Items lie side by side from byte 0."
+-- `at` is the first byte that is left.
 unfoldable pub pack : Lines → ℕ → ℕ → ℕ → List ℕ → Log
 pack p size t at [] = []
 pack p size t at (r ∷ rs) =
@@ -120,8 +123,8 @@ pub record State : Type 0 where
   pub log : Log
   pub passed : List ℕ
 
--- "arrivals first, then starts, then slots that begin". A process takes at least one tick, so that one started at this tick has
--- nothing to send at it: starts and slots go by the same view.
+-- "arrivals first, then starts, then slots that begin". A process takes at least one tick, so that one started at this
+-- tick has nothing to send at it: starts and slots go by the same view.
 unfoldable pub sends : Lines → View → ℕ → Log
 sends p v t = each (takes p v t) (beginning p t)
 
@@ -134,8 +137,8 @@ unfoldable pub before : Lines → List Bool → ℕ → State
 before p c zero = record { log = []; passed = [] }
 before p c (suc t) = let s : State = before p c t in step p (view p c (s .log) t) t s
 
--- "No delay exceeds all ticks added up plus 2 × round × (edges + conditions)." By then everything due is placed and over (laws), so
--- that planning ends there.
+-- "No delay exceeds all ticks added up plus 2 × round × (edges + conditions)." By then everything due is placed and
+-- over (laws), so that planning ends there.
 abbrev pub bound : Lines → ℕ
 bound p = sum (full-ticks p) + 2 * round p * (length (p .edges) + length (p .conditions))
 

@@ -14,7 +14,8 @@ pub data Refusal : Type 0 where
   nothing : Refusal
   refused : ℕ → Refusal
 
--- "Each sentence is tried over the whole input before the next": refused with its number where it applies, or else by the next.
+-- "Each sentence is tried over the whole input before the next": refused with its number where it applies, or else by
+-- the next.
 abbrev pub sentence : ℕ → Bool → Refusal → Refusal
 sentence n true next = refused n
 sentence n false next = next

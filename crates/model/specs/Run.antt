@@ -16,14 +16,14 @@ use Rattle.model.specs.Lookup.{Found, entry, none, refusal}
 abbrev pub Ask : Type 0
 Ask = ℕ → ℕ → ℕ → ℕ → ℕ → Found
 
--- "beginning at entry 0, then one past each entry given, until it gives none or refuses". (As many calls as there are entries, and one
--- more, are always enough: laws.)
+-- "beginning at entry 0, then one past each entry given, until it gives none or refuses". (As many calls as there are
+-- entries, and one more, are always enough: laws.)
 unfoldable pub calls : ℕ → (ℕ → Found) → ℕ → List ℕ
 calls zero ask from = []
 calls (suc left) ask from = elim (ask from) [ entry i ↦ i ∷ calls left ask (suc i) | none ↦ [] | refusal r ↦ [] ]
 
--- "one sent before it is ready, by this run's ends, counts for nothing": a broadcast before its decider's end, a message before its
--- sender's end or its known value. (`is-edge` holds of processes' rows too.)
+-- "one sent before it is ready, by this run's ends, counts for nothing": a broadcast before its decider's end, a
+-- message before its sender's end or its known value. (`is-edge` holds of processes' rows too.)
 unfoldable pub told-when-ready : Lines → List ℕ → Log → Placed → Bool
 told-when-ready p times log x = is-edge p (x .row) || broadcast-ready p (over p times log (x .tick)) (row-condition p (x .row))
 
@@ -53,7 +53,8 @@ entry-at words i = getD (entries-of words) i (record { row = 0; known = 0; value
 unfoldable pub given : List ℕ → Ask → ℕ → List Heard → ℕ → List ℕ
 given words ask t h n = calls (suc (length (entries-of words))) (ask n t (known-bits h) (value-bits h)) 0
 
--- the log after one tick: "ends and arrivals first, then each unit calls the lookup with its node, the tick and the values heard"
+-- the log after one tick: "ends and arrivals first, then each unit calls the lookup with its node, the tick and the
+-- values heard"
 unfoldable pub tick-log : Lines → List ℕ → Ask → List Bool → List ℕ → ℕ → Log → Log
 tick-log p words ask c times t log =
     let h : List Heard = hears p c times log t in
@@ -64,6 +65,7 @@ unfoldable pub run-before : Lines → List ℕ → Ask → List Bool → List �
 run-before p words ask c times zero = []
 run-before p words ask c times (suc t) = tick-log p words ask c times t (run-before p words ask c times t)
 
--- "It takes each tick from 0 to 999,999,999 in turn". (`run-before` stays shut where this unfolds, so that nothing computes it.)
+-- "It takes each tick from 0 to 999,999,999 in turn". (`run-before` stays shut where this unfolds, so that nothing
+-- computes it.)
 unfoldable pub whole-run : Lines → List ℕ → Ask → List Bool → List ℕ → Log
 whole-run p words ask c times = run-before p words ask c times 1000000000

@@ -1,4 +1,5 @@
--- Document 01, "Table and frame list": entries, columns, frames, words, and the planner's answer with refusals 10 and 11.
+-- Document 01, "Table and frame list": entries, columns, frames, words, and the planner's answer with refusals 10 and
+-- 11.
 -- Assumes nothing.
 use Prim.Native.Nat.{ℕ, zero, suc, _+_, _*_, _/_, _%_, max}
 use mathlib.Core.Bool.{Bool, true, not, _&&_, _||_}
@@ -57,8 +58,8 @@ entry-of p c log x =
     let h : List Heard = known p c (over p (full-ticks p) log (x .tick)) in
     record { row = x .row; known = known-bits h; values = value-bits h; tick = x .tick; place = x .place }
 
--- "Equal entries stand once; order is row, tick, known, values." Entries equal in these four have equal places (laws), so that the
--- place decides nothing.
+-- "Equal entries stand once; order is row, tick, known, values." Entries equal in these four have equal places (laws),
+-- so that the place decides nothing.
 unfoldable pub key : Entry → List ℕ
 key e = e .row ∷ e .tick ∷ e .known ∷ e .values ∷ e .place ∷ []
 
@@ -79,7 +80,8 @@ made-entries p r s = map (entry-of p (s .combination) (s .state .log)) (of-row (
 unfoldable pub row-entries : Lines → List Planned → ℕ → List Entry
 row-entries p ss r = put-all key one-of-two (each (made-entries p r) ss) []
 
--- "three words for each slot occurrence used in any combination: tick, node, greatest last used byte counted from 1; ascending ticks".
+-- "three words for each slot occurrence used in any combination: tick, node, greatest last used byte counted from 1;
+-- ascending ticks".
 -- One slot at most begins at a tick (laws), so that the tick tells the slot occurrence.
 pub record Frame : Type 0 where
   pub tick : ℕ
@@ -98,8 +100,9 @@ wider f g = record { tick = g .tick; node = g .node; used = max (f .used) (g .us
 unfoldable pub frames : Lines → List Entry → List Frame
 frames p es = put-all frame-key wider (map (frame-of p) (keep (λ e. not (is-process p (e .row))) es)) []
 
--- What the planner gives where nothing is refused. "The pass-over count sums, over all combinations, every slot in which a ready item
--- of its node was not taken": `passed` has the count of each node, and the pass-over count is their sum.
+-- What the planner gives where nothing is refused. "The pass-over count sums, over all combinations, every slot in
+-- which a ready item of its node was not taken": `passed` has the count of each node, and the pass-over count is their
+-- sum.
 pub record Result : Type 0 where
   pub delay : ℕ
   pub passed : List ℕ
@@ -143,8 +146,8 @@ frames-of (a ∷ []) = []
 frames-of (a ∷ b ∷ []) = []
 frames-of (a ∷ b ∷ c ∷ ws) = record { tick = a; node = b; used = c } ∷ frames-of ws
 
--- The planner's answer, given how many words are lent for entries and for frames: 2 to 9, then 10: "The planner's entries need more
--- words [..] than lent", then 11: "Its frames need more words than lent."
+-- The planner's answer, given how many words are lent for entries and for frames: 2 to 9, then 10: "The planner's
+-- entries need more words [..] than lent", then 11: "Its frames need more words than lent."
 pub data Answer : Type 0 where
   turned-down : ℕ → Answer
   made : Result → Answer
@@ -162,7 +165,8 @@ plan-answer p words frame-room =
     let r : Result = result p in
     answered (or-else (plan-refusal p) (room-refusal r words frame-room)) r
 
--- What the lent words hold afterwards: "every lent buffer keeps its contents; an accepted call leaves words beyond its output unchanged".
+-- What the lent words hold afterwards: "every lent buffer keeps its contents; an accepted call leaves words beyond its
+-- output unchanged".
 unfoldable pub table-after : Answer → List ℕ → List ℕ
 table-after (turned-down n) lent = lent
 table-after (made r) lent = front (entry-words (r .entries)) lent

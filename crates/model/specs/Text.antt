@@ -1,4 +1,5 @@
--- Document 01, "The plan text": the printed form of a plan, what a text means, and the answers of reader and plan writer.
+-- Document 01, "The plan text": the printed form of a plan, what a text means, and the answers of reader and plan
+-- writer.
 -- Assumes nothing.
 use Prim.Native.Nat.{ℕ, zero, suc, _+_, _/_, _%_, _≤_, _<_}
 use Prim.Native.String.{String}
@@ -100,8 +101,8 @@ pub record Means (bytes : List ℕ) (p : Lines) : Type 0 where
   pub all-short : all short (numbers p) ≡ true
   pub prints : print p ≡ bytes
 
--- What the reader answers: the lines that the text means, or a refusal. 1: "The text exceeds 16,384 bytes or is not of the form above";
--- 2 to 9: the lines that it means break that sentence first.
+-- What the reader answers: the lines that the text means, or a refusal. 1: "The text exceeds 16,384 bytes or is not of
+-- the form above"; 2 to 9: the lines that it means break that sentence first.
 pub data Reading : Type 0 where
   reads : Lines → Reading
   not-read : ℕ → Reading
@@ -115,8 +116,8 @@ pub data Answers-text (bytes : List ℕ) : Reading → Type 0 where
   of-no-form : ((p : Lines) → Means bytes p → ⊥) → Answers-text bytes (not-read 1)
   of-form : (p : Lines) → Means bytes p → length bytes ≤ 16384 → Answers-text bytes (after-refusal (plan-refusal p) p)
 
--- What a writer of bytes answers, given how many bytes are lent: the bytes, or a refusal; 10: "a written text [needs] more bytes, than
--- lent". And what the lent bytes hold afterwards.
+-- What a writer of bytes answers, given how many bytes are lent: the bytes, or a refusal; 10: "a written text [needs]
+-- more bytes, than lent". And what the lent bytes hold afterwards.
 pub data Written : Type 0 where
   wrote : List ℕ → Written
   not-written : ℕ → Written

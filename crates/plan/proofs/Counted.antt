@@ -1,4 +1,5 @@
--- The lines of an array that a count names: how many they are, what stands where, a column of them as an array of numbers, and one more.
+-- The lines of an array that a count names: how many they are, what stands where, a column of them as an array of
+-- numbers, and one more.
 -- Assumes nothing.
 use mathlib.Core.Path.{_≡_, sym, ap, _∙_}
 use mathlib.Core.Logic.{_⊎_, inl, inr}
@@ -26,7 +27,8 @@ module _ {A B : Type 0} (f : A → B) (d : A) (n : ℕ) (xs : List A) where
   unfolding counted
   counted-at i e l = getD-upfrom (λ i. f (getD xs i d)) 0 n i e l ∙ ap (λ (k : ℕ). f (getD xs k d)) (omega arith)
 
-  -- One number of each line, in an array that holds 0 past the lines, is that number of the line everywhere, if the empty line has 0 there.
+  -- One number of each line, in an array that holds 0 past the lines, is that number of the line everywhere, if the
+  -- empty line has 0 there.
   pub column : (h : B → ℕ) (size : ℕ) (g : ℕ → ℕ) → ((k : ℕ) → g k ≡ h (f (getD xs k d))) → h (f d) ≡ 0 → n ≤ size → (i : ℕ) →
       getD (fill size g (min n size)) i 0 ≡ h (getD (counted f d n xs) i (f d))
   column h size g e z u i =

@@ -1,5 +1,5 @@
--- Laws of the plan in memory: Counted (the lines that a count names), Links (tests over the arrays and tests on the lines), Sentences
--- (refusals in their order).
+-- Laws of the plan in memory: Counted (the lines that a count names), TestsOnLines (tests over the arrays and tests on
+-- the lines), Sentences (refusals in their order).
 pub mod Counted
-pub mod Links
-pub mod Sentences
+pub mod TestsOnLines
+pub mod RefusalOrder

@@ -1,3 +1,3 @@
 pub mod Memory
 pub mod Tables
-pub mod Refusing
+pub mod Tests

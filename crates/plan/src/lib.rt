@@ -1,6 +1,18 @@
-// The plan in memory: structs by value, counts and arrays. `lines` in specs/ says which lines of document 01 it stands for.
-pub mod tables;
+// The plan in memory: structs by value, counts and arrays, and its lines as tables of numbers. `lines` in
+// specs/Memory.antt says which lines of document 01 a plan stands for.
+// Document 01: "Two plans in memory are the same if the lines they stand for are."
+mod tables;
 
+use limits::CONDITIONS;
+use limits::EDGES;
+use limits::PROCESSES;
+use limits::SLOTS;
+pub use tables::EdgeTable;
+pub use tables::ProcessTable;
+pub use tables::SlotTable;
+pub use tables::edge_table;
+pub use tables::process_table;
+pub use tables::slot_table;
 ghost use mathlib.Core.Path.{_≡_};
 ghost use Rattle.plan.specs.Memory.{empty-plan};
 
@@ -41,19 +53,19 @@ pub struct Edge {
     pub when: When,
 }
 
-// A plan: `slots` is how many of the array `slot` are the plan's, and so on. A count above its array stands for as many lines, of
-// which refusal 2 then finds too many.
+// A plan: `slots` is how many of the array `slot` are the plan's, and so on. A count above its array stands for as many
+// lines, of which refusal 2 then finds too many.
 pub struct Plan {
     pub byte: u32,
     pub pick: Pick,
     pub slots: usize,
-    pub slot: [Slot; 8],
+    pub slot: [Slot; SLOTS],
     pub processes: usize,
-    pub process: [Process; 64],
+    pub process: [Process; PROCESSES],
     pub conditions: usize,
-    pub condition: [u32; 6],
+    pub condition: [u32; CONDITIONS],
     pub edges: usize,
-    pub edge: [Edge; 128],
+    pub edge: [Edge; EDGES],
 }
 
 // The plan to start from: no lines but the plan line, with `byte` 0.
@@ -72,10 +84,10 @@ pub fn empty() -> Plan
         bytes: 0,
         when: When::Always,
     };
-    let slot = [s; 8];
-    let process = [q; 64];
-    let condition = [0u32; 6];
-    let edge = [e; 128];
+    let slot = [s; SLOTS];
+    let process = [q; PROCESSES];
+    let condition = [0u32; CONDITIONS];
+    let edge = [e; EDGES];
     Plan {
         byte: 0,
         pick: Pick::Urgency,

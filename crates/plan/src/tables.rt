@@ -4,40 +4,35 @@ use crate::Plan;
 use crate::Process;
 use crate::Waits;
 use crate::When;
+use arrays::lesser_usize;
+use limits::EDGES;
+use limits::PROCESSES;
+use limits::SLOTS;
 ghost use mathlib.Core.Path.{_≡_};
-ghost use Prim.Native.Nat.{min};
-ghost use Rattle.plan.specs.Tables.{slots-table, processes-table, edges-table, kind-number, condition-number, any-number};
+ghost use Rattle.plan.specs.Tables.{slots-table, processes-table, edges-table, kind-number, condition-number};
+ghost use Rattle.plan.specs.Tables.{any-number};
 
 // by slot, in bus order
 pub struct SlotTable {
-    pub node: [u32; 8],
-    pub bytes: [u32; 8],
+    pub node: [u32; SLOTS],
+    pub bytes: [u32; SLOTS],
 }
 
 // by process; `any` is 1 where the process waits for any
 pub struct ProcessTable {
-    pub node: [u32; 64],
-    pub ticks: [u32; 64],
-    pub any: [u32; 64],
+    pub node: [u32; PROCESSES],
+    pub ticks: [u32; PROCESSES],
+    pub any: [u32; PROCESSES],
 }
 
-// by edge; `kind` is 0 for always, 1 for a condition that must be true, 2 for one that must be false, and `condition` names it
+// by edge; `kind` is 0 for always, 1 for a condition that must be true, 2 for one that must be false, and `condition`
+// names it
 pub struct EdgeTable {
-    pub from: [u32; 128],
-    pub to: [u32; 128],
-    pub bytes: [u32; 128],
-    pub kind: [u32; 128],
-    pub condition: [u32; 128],
-}
-
-// n, or `most` where n is more
-fn at_most(n: usize, most: usize) -> usize
-    ensures { λ r. ⌜ r ≡ min n most ⌝ }
-{
-    if most < n {
-        return most;
-    }
-    n
+    pub from: [u32; EDGES],
+    pub to: [u32; EDGES],
+    pub bytes: [u32; EDGES],
+    pub kind: [u32; EDGES],
+    pub condition: [u32; EDGES],
 }
 
 fn any_number(w: Waits) -> u32
@@ -72,9 +67,9 @@ fn condition_number(w: When) -> u32
 pub fn slot_table(p: Plan) -> SlotTable
     ensures { λ r. ⌜ r ≡ slots-table p ⌝ }
 {
-    let n = at_most(p.slots, 8);
-    let mut node = [0u32; 8];
-    let mut bytes = [0u32; 8];
+    let n = lesser_usize(p.slots, SLOTS);
+    let mut node = [0u32; SLOTS];
+    let mut bytes = [0u32; SLOTS];
     let mut i: usize = 0;
     while i < n {
         let s = p.slot[i];
@@ -88,10 +83,10 @@ pub fn slot_table(p: Plan) -> SlotTable
 pub fn process_table(p: Plan) -> ProcessTable
     ensures { λ r. ⌜ r ≡ processes-table p ⌝ }
 {
-    let n = at_most(p.processes, 64);
-    let mut node = [0u32; 64];
-    let mut ticks = [0u32; 64];
-    let mut any = [0u32; 64];
+    let n = lesser_usize(p.processes, PROCESSES);
+    let mut node = [0u32; PROCESSES];
+    let mut ticks = [0u32; PROCESSES];
+    let mut any = [0u32; PROCESSES];
     let mut i: usize = 0;
     while i < n {
         let q = p.process[i];
@@ -107,12 +102,12 @@ pub fn process_table(p: Plan) -> ProcessTable
 pub fn edge_table(p: Plan) -> EdgeTable
     ensures { λ r. ⌜ r ≡ edges-table p ⌝ }
 {
-    let n = at_most(p.edges, 128);
-    let mut from = [0u32; 128];
-    let mut to = [0u32; 128];
-    let mut bytes = [0u32; 128];
-    let mut kind = [0u32; 128];
-    let mut condition = [0u32; 128];
+    let n = lesser_usize(p.edges, EDGES);
+    let mut from = [0u32; EDGES];
+    let mut to = [0u32; EDGES];
+    let mut bytes = [0u32; EDGES];
+    let mut kind = [0u32; EDGES];
+    let mut condition = [0u32; EDGES];
     let mut i: usize = 0;
     while i < n {
         let e = p.edge[i];

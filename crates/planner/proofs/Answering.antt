@@ -1,4 +1,5 @@
--- The planner's answer: a refusal of the plan, 10 or 11 where the lent words do not suffice, or else what it made; and what the lent words hold after each.
+-- The planner's answer: a refusal of the plan, 10 or 11 where the lent words do not suffice, or else what it made; and
+-- what the lent words hold after each.
 -- Assumes nothing.
 use mathlib.Core.Path.{_≡_, sym, ap, _∙_}
 use mathlib.Core.List.{List}

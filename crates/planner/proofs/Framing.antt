@@ -1,4 +1,5 @@
--- The frames that are collected from the entries listed are those of the plan's frame list, and the pass-overs of the nodes add up to the pass-over count.
+-- The frames that are collected from the entries listed are those of the plan's frame list, and the pass-overs of the
+-- nodes add up to the pass-over count.
 -- Assumes nothing.
 use mathlib.Core.Path.{_≡_, sym, ap, _∙_}
 use mathlib.Core.List.{List, map}
@@ -13,21 +14,21 @@ use Rattle.model.specs.Plan.{Lines}
 use Rattle.model.specs.Bus.{rows}
 use Rattle.model.specs.Refusals.{nothing, plan-refusal}
 use Rattle.model.specs.Table.{plans, row-entries, passed-by, result, entry-words, frame-words}
-use Rattle.board.specs.declared.Board.{Board}
-use Rattle.board.specs.Board.{Boarded}
-use Rattle.entry_words.specs.Words.{Laid, table}
-use Rattle.frames.specs.Packed.{Rows, Holding, packed-frames, packed-words}
-use Rattle.frames.proofs.Links.{collected-words, collected-small, collected-count}
-use Rattle.courses.specs.declared.Totals.{Totals}
-use Rattle.courses.specs.Courses.{Planned-all}
+use Rattle.plan_index.specs.declared.index.PlanIndex.{PlanIndex}
+use Rattle.plan_index.specs.Indexed.{Indexed}
+use Rattle.table_entries.specs.Words.{Laid, table}
+use Rattle.table_frames.specs.Packed.{Rows, Holding, packed-frames, packed-words}
+use Rattle.table_frames.proofs.FramesOfModel.{collected-words, collected-small, collected-count}
+use Rattle.planner_combinations.specs.declared.Totals.{Totals}
+use Rattle.planner_combinations.specs.Combinations.{Planned-all}
 use Rattle.planner.specs.Planner.{Entered}
 
 -- the entries lie row after row, as many as counted
-pub laid-of : (b : Board) (list ends : List ℕ) (count : ℕ) (p : Lines) → Boarded p b → Entered p list ends count → Laid list ends (b .rows) × (getD ends (b .rows) 0 ≡ count)
+pub laid-of : (b : PlanIndex) (list ends : List ℕ) (count : ℕ) (p : Lines) → Indexed p b → Entered p list ends count → Laid list ends (b .rows) × (getD ends (b .rows) 0 ≡ count)
 laid-of b list ends count p o e = rw (o .row-count) (e .laid, e .last)
 
 -- the rows of the items can be collected from
-pub rows-of : (b : Board) (list ends : List ℕ) (count : ℕ) (p : Lines) → Boarded p b → Entered p list ends count → Rows list ends (b .processes) (b .rows)
+pub rows-of : (b : PlanIndex) (list ends : List ℕ) (count : ℕ) (p : Lines) → Indexed p b → Entered p list ends count → Rows list ends (b .processes) (b .rows)
 rows-of b list ends count p o e =
     let r : b .rows ≡ rows p = o .row-count in
     let n = o .processes-count in
@@ -47,9 +48,9 @@ pub record Framed (p : Lines) (out : List ℕ) (n : ℕ) : Type 0 where
   pub small : (i : ℕ) → i < n → getD out i 0 < 4398046511104
   pub counted : length (frame-words (result p .frames)) ≡ 3 * n
 
-pub framed : (b : Board) (list ends : List ℕ) (count : ℕ) (out : List ℕ) (n : ℕ) → take n out ≡ packed-frames list ends (b .sender) (b .size) (b .processes) (b .rows) →
+pub framed : (b : PlanIndex) (list ends : List ℕ) (count : ℕ) (out : List ℕ) (n : ℕ) → take n out ≡ packed-frames list ends (b .sender) (b .size) (b .processes) (b .rows) →
     n ≤ getD ends (b .rows) 0 → length out ≡ 12672 →
-    (p : Lines) → plan-refusal p ≡ nothing → Boarded p b → Entered p list ends count → Framed p out n
+    (p : Lines) → plan-refusal p ≡ nothing → Indexed p b → Entered p list ends count → Framed p out n
 framed b list ends count out n t l long p fine o e =
     let r : b .rows ≡ rows p = o .row-count in
     let h : Holding p (row-entries p (plans p)) list ends (b .sender) (b .size) =
@@ -66,7 +67,7 @@ framed b list ends count out n t l long p fine o e =
     }
 
 -- what is written of both are the words of the table and of the frame list
-pub words-front : (b : Board) (list ends : List ℕ) (count : ℕ) (p : Lines) → Boarded p b → Entered p list ends count → (lent : List ℕ) {now : List ℕ} →
+pub words-front : (b : PlanIndex) (list ends : List ℕ) (count : ℕ) (p : Lines) → Indexed p b → Entered p list ends count → (lent : List ℕ) {now : List ℕ} →
     now ≡ front (table list ends (b .rows)) lent → now ≡ front (entry-words (result p .entries)) lent
 words-front b list ends count p o e lent q = q ∙ ap (λ (k : ℕ). front (table list ends k) lent) (o .row-count) ∙ ap (λ (ws : List ℕ). front ws lent) (sym (e .words))
 

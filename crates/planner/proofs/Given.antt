@@ -1,5 +1,5 @@
--- What the planner made stands at the front of what was lent: its answer in memory is one of the model, the lent words suffice, and the first of them are the
--- table's and the frame list's.
+-- What the planner made stands at the front of what was lent: its answer in memory is one of the model, the lent words
+-- suffice, and the first of them are the table's and the frame list's.
 -- Assumes nothing.
 use mathlib.Core.Path.{_≡_, refl, ap, _∙_}
 use mathlib.Core.Bool.{Bool, true, false}

@@ -1,5 +1,6 @@
--- Of a plan in which refusals 2 to 9 find nothing the start table has at most 12,672 entries and the frame list at most 8,576 frames: one entry for each row
--- and combination, and one frame for each row of an item and combination. And its worst delay is at most 999,999,999.
+-- Of a plan in which refusals 2 to 9 find nothing the start table has at most 12,672 entries and the frame list at most
+-- 8,576 frames: one entry for each row and combination, and one frame for each row of an item and combination. And its
+-- worst delay is at most 999,999,999.
 -- Assumes nothing.
 use mathlib.Core.Path.{_≡_, sym, ap, _∙_}
 use mathlib.Core.Bool.{Bool, true, false, not}
@@ -29,9 +30,9 @@ use Rattle.laws.proofs.Lawful.{count-one}
 use Rattle.laws.proofs.Rules.{Kept}
 use Rattle.laws.proofs.Safety.{planning-keeps}
 use Rattle.laws.proofs.Words.{entry-words-count, frame-words-count}
-use Rattle.mask.proofs.Numbered.{combinations-count}
-use Rattle.ascending.proofs.Putting.{length-put-all}
-use Rattle.frames.proofs.Links.{row-of}
+use Rattle.bitset.proofs.Numbered.{combinations-count}
+use Rattle.table_entries.proofs.Putting.{length-put-all}
+use Rattle.table_frames.proofs.FramesOfModel.{row-of}
 
 -- one part and then the rest, each part's lists of at most k
 parts-most : {A : Type 0} (f : ℕ → List A) (m n k : ℕ) → m ≤ n → ((x : ℕ) → x < m → length (f x) ≤ 0) → ((x : ℕ) → length (f x) ≤ k) → length (each f (below n)) ≤ k * (n - m)

@@ -10,35 +10,36 @@ use Rattle.model.specs.Plan.{Lines}
 use Rattle.model.specs.Bus.{rows}
 use Rattle.model.specs.Refusals.{nothing, plan-refusal}
 use Rattle.model.specs.Table.{Answer, turned-down, made, plans, row-entries, result, entry-words, frame-words, plan-answer, table-after, frames-after}
-use Rattle.board.specs.declared.Board.{Board}
-use Rattle.board.specs.Board.{Boarded}
-use Rattle.entries.specs.Logs.{Logs}
-use Rattle.entry_words.specs.Words.{Laid, table}
-use Rattle.frames.specs.Packed.{packed-entry}
-use Rattle.courses.specs.declared.Totals.{Totals}
-use Rattle.courses.specs.Courses.{Planned-all}
+use Rattle.plan_index.specs.declared.index.PlanIndex.{PlanIndex}
+use Rattle.plan_index.specs.Indexed.{Indexed}
+use Rattle.table_entries.specs.Logs.{Logs}
+use Rattle.table_entries.specs.Words.{Laid, table}
+use Rattle.table_frames.specs.Packed.{packed-entry}
+use Rattle.planner_combinations.specs.declared.Totals.{Totals}
+use Rattle.planner_combinations.specs.Combinations.{Planned-all}
 use Rattle.planner.specs.declared.Made.{Made}
 use Rattle.planner.specs.declared.Planned.{Planned}
 use Rattle.planner.specs.declared.Planned.the-variants as answer
 
--- The answer in memory: a refusal's number, or how many words of the table and of the frame list are written, the worst delay and the pass-over count.
+-- The answer in memory: a refusal's number, or how many words of the table and of the frame list are written, the worst
+-- delay and the pass-over count.
 unfoldable pub answer-of : Answer → Planned
 answer-of (turned-down n) = answer.Refused n
 answer-of (made r) =
     answer.Made (record { words = length (entry-words (r .entries)); framewords = length (frame-words (r .frames)); delay = r .delay; passed = sum (r .passed) })
 
--- a board of some plan in which refusals 2 to 9 find nothing, whose logs the arrays hold
-pub record Some-logs (b : Board) (comes place since : List ℕ) : Type 0 where
+-- a plan index of some plan in which refusals 2 to 9 find nothing, whose logs the arrays hold
+pub record Some-logs (b : PlanIndex) (comes place since : List ℕ) : Type 0 where
   pub plan : Lines
   pub passes : plan-refusal plan ≡ nothing
-  pub boarded : Boarded plan b
+  pub indexed : Indexed plan b
   pub logged : Logs plan comes place since (b .span)
 
 -- the same with the totals of all combinations
-pub record Some-plans (b : Board) (t : Totals) (comes place since : List ℕ) : Type 0 where
+pub record Some-plans (b : PlanIndex) (t : Totals) (comes place since : List ℕ) : Type 0 where
   pub plan : Lines
   pub passes : plan-refusal plan ≡ nothing
-  pub boarded : Boarded plan b
+  pub indexed : Indexed plan b
   pub all : Planned-all plan (b .span) t comes place since
 
 -- The entries of the plan's table stand in an array as numbers, row after row; `count` of them in all.

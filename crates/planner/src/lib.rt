@@ -1,31 +1,38 @@
-// The planner: a plan in memory in, a start table and a frame list out, as words that the caller lends. It plans every combination, lists the entries and
-// the frames, and writes only where nothing is refused.
-use board::Board;
-use board::of_plan;
-use courses::Totals;
-use courses::all_courses;
-use courses::how_many;
-use entries::all_entries;
-use frames::collect;
+// The planner: a plan in memory in, a start table and a frame list out, as words that the caller lends. It plans every
+// combination, lists the entries and the frames, and writes only where nothing is refused.
+// Document 01: "every lent buffer keeps its contents; an accepted call leaves words beyond its output unchanged"
+use limits::COMBINATIONS;
+use limits::ENTRIES;
+use limits::NODES;
+use limits::ROWENDS;
 use plan::Plan;
-use refusals::Refusal;
-use refusals::refuse;
-use table_out::write_both;
+use plan_index::PlanIndex;
+use plan_index::of_plan;
+use plan_refusals::Refusal;
+use plan_refusals::refuse;
+use planner_combinations::Totals;
+use planner_combinations::how_many;
+use planner_combinations::plan_combinations;
+use table_entries::all_entries;
+use table_frames::collect;
+use table_frames::write_both;
 ghost use mathlib.Core.Path.{_≡_};
 ghost use mathlib.Core.List.{map};
 ghost use Prim.Native.Nat.{ℕ, _≤_, _<_};
 ghost use lib.ListN.{getD, length, replicate};
+ghost use Rattle.limits.specs.Limits.{NODES, COMBINATIONS, ROWENDS, ENTRIES};
 ghost use Rattle.lists.specs.Lists.{below, sum};
 ghost use Rattle.model.specs.Plan.{Lines};
 ghost use Rattle.model.specs.Refusals.{nothing, plan-refusal};
 ghost use Rattle.model.specs.Table.{plan-answer, table-after, frames-after};
 ghost use Rattle.plan.specs.Memory.{lines};
-ghost use Rattle.board.specs.Board.{Boarded};
-ghost use Rattle.entries.specs.Logs.{Logs};
-ghost use Rattle.courses.specs.Courses.{Planned-all};
+ghost use Rattle.plan_index.specs.Indexed.{Indexed};
+ghost use Rattle.table_entries.specs.Logs.{Logs};
+ghost use Rattle.planner_combinations.specs.Combinations.{Planned-all};
 ghost use Rattle.planner.specs.Planner.{answer-of, Some-logs, Some-plans, Entered, Answers};
 
-// What the planner gives where nothing is refused: how many words of the table and of the frame list are written, the worst delay, and the pass-over count.
+// What the planner gives where nothing is refused: how many words of the table and of the frame list are written, the
+// worst delay, and the pass-over count.
 pub struct Made {
     pub words: usize,
     pub framewords: usize,
@@ -39,21 +46,21 @@ pub enum Planned {
     Refused(u32),
 }
 
-fn no_places() -> [u32; 199]
-    ensures { λ r. ⌜ r ≡ replicate 199 0 ⌝ }
+fn no_places() -> [u32; ROWENDS]
+    ensures { λ r. ⌜ r ≡ replicate ROWENDS 0 ⌝ }
 {
-    [0u32; 199]
+    [0u32; ROWENDS]
 }
 
-fn no_clocks() -> [u32; 64]
-    ensures { λ r. ⌜ r ≡ replicate 64 0 ⌝ }
+fn no_clocks() -> [u32; COMBINATIONS]
+    ensures { λ r. ⌜ r ≡ replicate COMBINATIONS 0 ⌝ }
 {
-    [0u32; 64]
+    [0u32; COMBINATIONS]
 }
 
 // The pass-overs of the nodes added up.
-fn pass_overs(passed: [u32; 8], slots: usize) -> u32
-    requires { ⌜ (slots ≤ 8) × ((n : ℕ) → n < slots → getD passed n 0 ≤ 12672) ⌝ }
+fn pass_overs(passed: [u32; NODES], slots: usize) -> u32
+    requires { ⌜ (slots ≤ NODES) × ((n : ℕ) → n < slots → getD passed n 0 ≤ ENTRIES) ⌝ }
     ensures { λ r. ⌜ r ≡ sum (map (λ n. getD passed n 0) (below slots)) ⌝ }
 {
     let mut total: u32 = 0;
@@ -65,18 +72,22 @@ fn pass_overs(passed: [u32; 8], slots: usize) -> u32
     total
 }
 
-// The entries of the table as numbers in `list`, row r's from place ends[r] up to place ends[r + 1]. How many there are in all. A row that starts before clock
-// `since[c]` in combination c has the same entry in an earlier combination, and is listed there.
+// The entries of the table as numbers in `list`, row r's from place ends[r] up to place ends[r + 1]. How many there are
+// in all. A row that starts before clock `since[c]` in combination c has the same entry in an earlier combination, and
+// is listed there.
 fn list_entries<'a>(
-    b: Board,
-    comes: &'a [u32; 12672],
-    place: &'a [u32; 12672],
-    since: &'a [u32; 64],
-    list: &mut [u64; 12672],
-    ends: &mut [u32; 199],
+    b: PlanIndex,
+    comes: &'a [u32; ENTRIES],
+    place: &'a [u32; ENTRIES],
+    since: &'a [u32; COMBINATIONS],
+    list: &mut [u64; ENTRIES],
+    ends: &mut [u32; ROWENDS],
 ) -> usize
-    requires { ⌜ Some-logs b (now comes) (now place) (now since) ⌝ ∗ ⌜ (length (now list) ≡ 12672) × (length (now ends) ≡ 199) ⌝ }
-    ensures { λ count. ⌜ ((p : Lines) → plan-refusal p ≡ nothing → Boarded p b → Logs p (now (comes .entry)) (now (place .entry)) (now (since .entry)) (b .span) → Entered p (now (list .exit)) (now (ends .exit)) count) ⌝ }
+    requires { ⌜ Some-logs b (now comes) (now place) (now since) ⌝
+        ∗ ⌜ (length (now list) ≡ ENTRIES) × (length (now ends) ≡ ROWENDS) ⌝ }
+    ensures { λ count. ⌜ ((p : Lines) → plan-refusal p
+        ≡ nothing → Indexed p b → Logs p (now (comes .entry)) (now (place .entry)) (now (since .entry)) (b .span) →
+        Entered p (now (list .exit)) (now (ends .exit)) count) ⌝ }
 {
     let combinations = how_many(b.conditions);
     all_entries(
@@ -85,7 +96,7 @@ fn list_entries<'a>(
         since,
         &b.span,
         combinations,
-        b.tell,
+        b.conditionrow,
         b.conditions,
         b.rows,
         list,
@@ -93,27 +104,29 @@ fn list_entries<'a>(
     )
 }
 
-// Lists the entries and the frames of the table, and writes both where the lent words suffice. The lists are of ones, which
-// are stored by fewer instructions than zeros are (docs/PERFORMANCE.md); none is read before it is stored.
+// Lists the entries and the frames of the table, and writes both where the lent words suffice. The lists are of ones,
+// which are stored by fewer instructions than zeros are (docs/PERFORMANCE.md); none is read before it is stored.
 fn write_all<'a>(
-    b: Board,
+    b: PlanIndex,
     t: Totals,
-    comes: &'a [u32; 12672],
-    place: &'a [u32; 12672],
-    since: &'a [u32; 64],
+    comes: &'a [u32; ENTRIES],
+    place: &'a [u32; ENTRIES],
+    since: &'a [u32; COMBINATIONS],
     table: &mut [u32],
     frames: &mut [u32],
 ) -> Planned
     requires { ⌜ Some-plans b t (now comes) (now place) (now since) ⌝ }
-    ensures { λ r. ⌜ ((p : Lines) → plan-refusal p ≡ nothing → Boarded p b → Planned-all p (b .span) t (now (comes .entry)) (now (place .entry)) (now (since .entry)) → Answers p r (now (table .entry)) (now (frames .entry)) (now (table .exit)) (now (frames .exit))) ⌝ }
+    ensures { λ r. ⌜ ((p : Lines) → plan-refusal p ≡ nothing → Indexed p b → Planned-all p (b .span) t
+        (now (comes .entry)) (now (place .entry)) (now (since .entry)) → Answers p r (now (table .entry))
+        (now (frames .entry)) (now (table .exit)) (now (frames .exit))) ⌝ }
 {
-    let mut list = [1u64; 12672];
+    let mut list = [1u64; ENTRIES];
     let mut ends = no_places();
     let count = list_entries(b, comes, place, since, &mut list, &mut ends);
     if table.len() < 5 * count {
         return Planned::Refused(10);
     }
-    let mut out = [1u64; 12672];
+    let mut out = [1u64; ENTRIES];
     let used = collect(
         &list,
         &ends,
@@ -136,27 +149,32 @@ fn write_all<'a>(
     Planned::Refused(11)
 }
 
-// Plans a plan in which refusals 2 to 9 find nothing, as `plan_table` does after it has tried them. It is pub for a caller that has just read the plan from a text, and
-// so has tried them already. `comes` and `place` are of ones, which are stored by fewer instructions than zeros are (docs/PERFORMANCE.md); none is read before
-// its combination is stored.
+// Plans a plan in which refusals 2 to 9 find nothing, as `plan_table` does after it has tried them. It is pub for a
+// caller that has just read the plan from a text, and so has tried them already. `comes` and `place` are of ones, which
+// are stored by fewer instructions than zeros are (docs/PERFORMANCE.md); none is read before its combination is stored.
 pub fn plan_accepted(p: Plan, table: &mut [u32], frames: &mut [u32]) -> Planned
     requires { ⌜ plan-refusal (lines p) ≡ nothing ⌝ }
-    ensures { λ r. ⌜ Answers (lines p) r (now (table .entry)) (now (frames .entry)) (now (table .exit)) (now (frames .exit)) ⌝ }
+    ensures { λ r. ⌜ Answers (lines p) r (now (table .entry)) (now (frames .entry)) (now (table .exit))
+        (now (frames .exit)) ⌝ }
 {
     let b = of_plan(p);
-    let mut comes = [1u32; 12672];
-    let mut place = [1u32; 12672];
+    let mut comes = [1u32; ENTRIES];
+    let mut place = [1u32; ENTRIES];
     let mut since = no_clocks();
-    let t = all_courses(b, &mut comes, &mut place, &mut since);
+    let t = plan_combinations(b, &mut comes, &mut place, &mut since);
     write_all(b, t, &comes, &place, &since, table, frames)
 }
 
-// Plans any plan in memory: the start table is written to the front of `table`, five words to an entry, and the frame list to the front of `frames`, three
-// words to a frame; words beyond them stay as they were. A refusal, 2 to 11, leaves every lent word as it was.
+// Plans any plan in memory: the start table is written to the front of `table`, five words to an entry, and the frame
+// list to the front of `frames`, three words to a frame; words beyond them stay as they were. A refusal, 2 to 11,
+// leaves every lent word as it was.
 pub fn plan_table(p: Plan, table: &mut [u32], frames: &mut [u32]) -> Planned
-    ensures answer { λ r. ⌜ r ≡ answer-of (plan-answer (lines p) (length (now (table .entry))) (length (now (frames .entry)))) ⌝ }
-    ensures table { λ r. ⌜ now (table .exit) ≡ table-after (plan-answer (lines p) (length (now (table .entry))) (length (now (frames .entry)))) (now (table .entry)) ⌝ }
-    ensures frames { λ r. ⌜ now (frames .exit) ≡ frames-after (plan-answer (lines p) (length (now (table .entry))) (length (now (frames .entry)))) (now (frames .entry)) ⌝ }
+    ensures answer { λ r. ⌜ r ≡ answer-of (plan-answer (lines p) (length (now (table .entry)))
+        (length (now (frames .entry)))) ⌝ }
+    ensures table { λ r. ⌜ now (table .exit) ≡ table-after (plan-answer (lines p) (length (now (table .entry)))
+        (length (now (frames .entry)))) (now (table .entry)) ⌝ }
+    ensures frames { λ r. ⌜ now (frames .exit) ≡ frames-after
+        (plan-answer (lines p) (length (now (table .entry))) (length (now (frames .entry)))) (now (frames .entry)) ⌝ }
 {
     let refusal = refuse(p);
     match refusal {

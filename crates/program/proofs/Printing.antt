@@ -1,4 +1,5 @@
--- The planner's answer is printed as document 01 says: a refusal as its line, and a result as the listing of the words at the front of what was lent.
+-- The planner's answer is printed as document 01 says: a refusal as its line, and a result as the listing of the words
+-- at the front of what was lent.
 -- Assumes nothing.
 use mathlib.Core.Path.{_≡_, sym, ap, _∙_}
 use mathlib.Core.List.{List}
@@ -8,7 +9,7 @@ use Rattle.model.specs.Plan.{Lines}
 use Rattle.model.specs.Table.{Answer}
 use Rattle.model.specs.Listing.{refused-line, words-listing, printed}
 use Rattle.model.specs.Text.{bytes-after}
-use Rattle.listing.specs.declared.Listed.{Listed}
+use Rattle.listing.specs.declared.writer.Listed.{Listed}
 use Rattle.listing.specs.Answer.{written-of, answer-of as listed-of}
 use Rattle.laws.proofs.Words.{printed-words}
 use Rattle.planner.specs.declared.Made.{Made}

@@ -8,11 +8,11 @@ use Rattle.model.specs.Text.{reads, not-read, Answers-text, bytes-after}
 use Rattle.model.specs.Table.{plan-answer}
 use Rattle.model.specs.Listing.{refused-line, printed, program-prints}
 use Rattle.plan.specs.Memory.{lines}
-use Rattle.refusals.specs.declared.Refusal.the-variants.{Nothing, Refused}
-use Rattle.plan_reader.specs.Answer.{reading-of}
-use Rattle.plan_reader.specs.declared.Read.{Read}
-use Rattle.plan_reader.proofs.Told.{told-refused, told-read}
-use Rattle.listing.specs.declared.Listed.{Listed}
+use Rattle.plan_refusals.specs.declared.sentences.Refusal.the-variants.{Nothing, Refused}
+use Rattle.text_reader.specs.Answer.{reading-of}
+use Rattle.text_reader.specs.declared.reader.Read.{Read}
+use Rattle.text_reader.proofs.ReadCases.{told-refused, told-read}
+use Rattle.listing.specs.declared.writer.Listed.{Listed}
 use Rattle.listing.specs.Answer.{written-of, answer-of}
 use Rattle.program.specs.Prints.{Prints}
 

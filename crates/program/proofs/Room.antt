@@ -1,5 +1,5 @@
--- What the planning program prints for a text is never more than 388,100 bytes: 3,000 lines of entries have at most 104 bytes each, 2,000 lines of frames at
--- most 38 bytes each, and the first two lines fewer than 100 in all.
+-- What the planning program prints for a text is never more than 388,100 bytes: 3,000 lines of entries have at most 104
+-- bytes each, 2,000 lines of frames at most 38 bytes each, and the first two lines fewer than 100 in all.
 -- Assumes nothing.
 use mathlib.Core.Path.{_≡_, refl, sym, ap, _∙_, subst}
 use mathlib.Core.Bool.{Bool, true, false}
@@ -22,7 +22,7 @@ use Rattle.model.specs.Table.{Entry, Frame, Answer, turned-down, made, Result, 
 use Rattle.model.specs.Text.{Reading, after-refusal, Answers-text, of-no-form, of-form}
 use Rattle.model.specs.Text as m
 use Rattle.model.specs.Listing.{refused-line, printed, program-prints}
-use Rattle.grammar.proofs.Numbers.{decimal-length}
+use Rattle.text_grammar.proofs.Numbers.{decimal-length}
 use Rattle.laws.proofs.Bound.{bound-small}
 use Rattle.laws.proofs.Entries.{final, Made, entries-in}
 use Rattle.laws.proofs.Events.{passed-few}
@@ -34,11 +34,11 @@ use Rattle.laws.proofs.Rules.{Kept}
 use Rattle.laws.proofs.Safety.{planning-keeps}
 use Rattle.laws.proofs.Slots.{slot-in}
 use Rattle.laws.proofs.Words.{entries-back, frames-back, printed-words, entry-words-count, frame-words-count}
-use Rattle.listing_parts.specs.Parts.{entry-text, entries-text, frame-text, frames-text, listing-of}
-use Rattle.listing_parts.proofs.Digits.{one-digit}
-use Rattle.listing_parts.proofs.Lengths.{frame-length, listing-length}
-use Rattle.listing_parts.proofs.Most.{line-most}
-use Rattle.listing_parts.proofs.Lines.{refused-length, listing-same}
+use Rattle.listing_count.specs.Parts.{entry-text, entries-text, frame-text, frames-text, listing-of}
+use Rattle.listing_count.proofs.DigitCounts.{one-digit}
+use Rattle.listing_count.proofs.Lengths.{frame-length, listing-length}
+use Rattle.listing_count.proofs.Most.{line-most}
+use Rattle.listing_count.proofs.Lines.{refused-length, listing-same}
 use Rattle.planner.proofs.Given.{made-suffice}
 use Rattle.planner.proofs.Most.{plans-few, plan-in, delay-most}
 

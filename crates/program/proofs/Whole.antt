@@ -9,8 +9,8 @@ use Rattle.lists.specs.Front.{front}
 use Rattle.model.specs.Text.{wrote, bytes-after}
 use Rattle.model.specs.Text as m
 use Rattle.model.specs.Listing.{program-prints}
-use Rattle.listing.specs.declared.Listed.{Listed}
-use Rattle.listing.specs.declared.Listed.the-variants.{Wrote, Refused}
+use Rattle.listing.specs.declared.writer.Listed.{Listed}
+use Rattle.listing.specs.declared.writer.Listed.the-variants.{Wrote, Refused}
 use Rattle.listing.specs.Answer.{written-of, answer-of}
 use Rattle.listing.proofs.Written.{lent-enough}
 use Rattle.program.specs.Prints.{Prints, Prints-all}

@@ -1,5 +1,5 @@
--- What the planning program answers for a text, and what the lent bytes hold afterwards: the text reads as something, which document 01 fixes, and
--- what is printed for that is put into the lent bytes.
+-- What the planning program answers for a text, and what the lent bytes hold afterwards: the text reads as something,
+-- which document 01 fixes, and what is printed for that is put into the lent bytes.
 -- Assumes nothing.
 use Prim.Native.Nat.{ℕ}
 use mathlib.Core.Path.{_≡_}
@@ -8,7 +8,7 @@ use lib.ListN.{length}
 use Rattle.lists.specs.Front.{front}
 use Rattle.model.specs.Text.{Reading, Answers-text, bytes-after}
 use Rattle.model.specs.Listing.{program-prints}
-use Rattle.listing.specs.declared.Listed.{Listed}
+use Rattle.listing.specs.declared.writer.Listed.{Listed}
 use Rattle.listing.specs.Answer.{written-of, answer-of}
 
 pub record Prints (text before after : List ℕ) (r : Listed) : Type 0 where

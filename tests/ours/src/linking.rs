@@ -16,7 +16,7 @@ pub fn link(sources: &[PathBuf], program: &Path) {
         .args(sources)
         .arg("-L")
         .arg(root().join("target/staticlib"))
-        .args(["-lcapi", "-o"])
+        .args(["-lc_interface", "-o"])
         .arg(program)
         .output()
         .expect("gcc");

@@ -2,7 +2,7 @@
 -- Assumes nothing.
 use mathlib.Core.Path.{sym}
 use native.Mathlib.Omega.{arith}
-use Rattle.listing_parts.proofs.Digits.{one-digit, more-digits}
+use Rattle.listing_count.proofs.DigitCounts.{one-digit, more-digits}
 use Rattle.listing_count.proofs.digits.Statement.{statement}
 use Rattle.listing_count.proofs.digits.Tie as tie
 

@@ -1,10 +1,11 @@
--- `listing_count::entries_room` meets its contract: before each turn the entries of the words from i on are still to be taken from the room.
+-- `listing_count::entries_room` meets its contract: before each turn the entries of the words from i on are still to be
+-- taken from the room.
 -- Assumes nothing.
 use native.Mathlib.Omega.{arith}
 use lib.ListN.{length, getD, drop}
 use Prim.Native.Nat.{_+_, _-_, _≤_}
-use Rattle.listing_parts.specs.Parts.{entry-of, entry-text, entries-text}
-use Rattle.listing_parts.proofs.Words.{entries-at, entries-end}
+use Rattle.listing_count.specs.Parts.{entry-of, entry-text, entries-text}
+use Rattle.listing_count.proofs.Words.{entries-at, entries-end}
 use Rattle.listing_count.proofs.Leaving.{Leaving, leaving-start, leaving-next, leaving-end}
 use Rattle.listing_count.proofs.entries_room.Statement.{statement}
 use borrow.Author.Needs.{needs}

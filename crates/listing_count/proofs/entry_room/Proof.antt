@@ -5,8 +5,8 @@ use Prim.Native.Nat.{_-_}
 use native.Mathlib.Omega.{arith}
 use lib.ListN.{length}
 use Rattle.model.specs.Text.{text}
-use Rattle.listing_parts.proofs.Cases.{entry-start, entry-send, entry-tell, entry-none}
-use Rattle.listing_parts.proofs.Lengths.{item-length}
+use Rattle.listing_count.proofs.Cases.{entry-start, entry-send, entry-tell, entry-none}
+use Rattle.listing_count.proofs.Lengths.{item-length}
 use borrow.Author.Needs.{needs}
 use Rattle.listing_count.proofs.entry_room.Statement.{statement}
 use Rattle.listing_count.proofs.entry_room.Tie as tie

@@ -1,5 +1,5 @@
--- `listing_count::exceeds` meets its contract: where any listing of so many words fits, this one does. Otherwise the room is the bytes lent and one more, and it is used up where
--- the listing needs more.
+-- `listing_count::exceeds` meets its contract: where any listing of so many words fits, this one does. Otherwise the
+-- room is the bytes lent and one more, and it is used up where the listing needs more.
 -- Assumes nothing.
 use mathlib.Core.Path.{sym, _∙_}
 use native.Mathlib.Omega.{arith}
@@ -7,9 +7,9 @@ use lib.ListN.{length}
 use Prim.Native.Nat.{_+_}
 use borrow.Author.Tests.{lt-ltb, le-ltb}
 use Rattle.model.specs.Text.{decimal}
-use Rattle.listing_parts.specs.Parts.{entries-text, frames-text, listing-of}
-use Rattle.listing_parts.proofs.Lengths.{listing-length, used-up}
-use Rattle.listing_parts.proofs.Most.{Ten-digits, listing-most}
+use Rattle.listing_count.specs.Parts.{entries-text, frames-text, listing-of}
+use Rattle.listing_count.proofs.Lengths.{listing-length, used-up}
+use Rattle.listing_count.proofs.Most.{Ten-digits, listing-most}
 use Rattle.listing_count.proofs.Enough.{ample-enough}
 use borrow.Author.Needs.{needs}
 use Rattle.listing_count.proofs.exceeds.Statement.{statement}

@@ -1,10 +1,11 @@
--- `listing_count::frames_room` meets its contract: before each turn the frames of the words from i on are still to be taken from the room.
+-- `listing_count::frames_room` meets its contract: before each turn the frames of the words from i on are still to be
+-- taken from the room.
 -- Assumes nothing.
 use native.Mathlib.Omega.{arith}
 use lib.ListN.{length, getD, drop}
 use Prim.Native.Nat.{_+_, _-_, _≤_}
-use Rattle.listing_parts.specs.Parts.{frame-of, frame-text, frames-text}
-use Rattle.listing_parts.proofs.Words.{frames-at, frames-end}
+use Rattle.listing_count.specs.Parts.{frame-of, frame-text, frames-text}
+use Rattle.listing_count.proofs.Words.{frames-at, frames-end}
 use Rattle.listing_count.proofs.Leaving.{Leaving, leaving-start, leaving-next, leaving-end}
 use Rattle.listing_count.proofs.frames_room.Statement.{statement}
 use borrow.Author.Needs.{needs}

@@ -1,9 +1,10 @@
--- `listing_count::item_room` meets its contract: the room loses the conditions of the column, then the fixed words and the digits.
+-- `listing_count::item_room` meets its contract: the room loses the conditions of the column, then the fixed words and
+-- the digits.
 -- Assumes nothing.
 use mathlib.Core.Path.{refl}
 use native.Mathlib.Omega.{arith}
 use Rattle.model.specs.Text.{text}
-use Rattle.listing_parts.proofs.Lengths.{item-length}
+use Rattle.listing_count.proofs.Lengths.{item-length}
 use borrow.Author.Needs.{needs}
 use Rattle.listing_count.proofs.item_room.Statement.{statement}
 use Rattle.listing_count.proofs.item_room.Tie as tie
@@ -14,28 +15,28 @@ values-room-requires c κs = search needs
 digits-requires : tie.Need-digits-requires
 digits-requires c κs = search needs
 
-add-less : tie.Need-add-less
-add-less c = search needs
+add-difference-usize : tie.Need-add-difference-usize
+add-difference-usize c = search needs
 
 digits-requires-2 : tie.Need-digits-requires-2
 digits-requires-2 c κs = search needs
 
-add-less-2 : tie.Need-add-less-2
-add-less-2 c = search needs
+add-difference-usize-2 : tie.Need-add-difference-usize-2
+add-difference-usize-2 c = search needs
 
 digits-requires-3 : tie.Need-digits-requires-3
 digits-requires-3 c κs = search needs
 
-add-less-3 : tie.Need-add-less-3
-add-less-3 c = search needs
+add-difference-usize-3 : tie.Need-add-difference-usize-3
+add-difference-usize-3 c = search needs
 
-less-requires : tie.Need-less-requires
-less-requires c κs = search needs
+difference-usize-requires : tie.Need-difference-usize-requires
+difference-usize-requires c κs = search needs
 
 returns : tie.Need-returns
 returns c =
     let a = c .before .before .before .before .before .args in
-    omega (arith, item-length (text "(send ") refl (a .conditions) (a .number) (a .known) (a .values) (a .tick) (a .place), c .less .ensures, c .before .digits3 .ensures .0, c .before .before .digits2 .ensures .0, c .before .before .before .digits .ensures .0, c .before .before .before .before .values-room .ensures)
+    omega (arith, item-length (text "(send ") refl (a .conditions) (a .number) (a .known) (a .values) (a .tick) (a .place), c .difference-usize .ensures, c .before .digits3 .ensures .0, c .before .before .digits2 .ensures .0, c .before .before .before .digits .ensures .0, c .before .before .before .before .values-room .ensures)
 
 pub item-room-spec : {M : Type 1} → statement M
 item-room-spec =
@@ -43,10 +44,10 @@ item-room-spec =
     (tie.spec
     values-room-requires
     digits-requires
-    add-less
+    add-difference-usize
     digits-requires-2
-    add-less-2
+    add-difference-usize-2
     digits-requires-3
-    add-less-3
-    less-requires
+    add-difference-usize-3
+    difference-usize-requires
     returns)

@@ -1,7 +1,8 @@
--- `listing_count::start_room` meets its contract: the room loses the conditions of the column, then the fixed words and the digits.
+-- `listing_count::start_room` meets its contract: the room loses the conditions of the column, then the fixed words and
+-- the digits.
 -- Assumes nothing.
 use native.Mathlib.Omega.{arith}
-use Rattle.listing_parts.proofs.Lengths.{start-length}
+use Rattle.listing_count.proofs.Lengths.{start-length}
 use borrow.Author.Needs.{needs}
 use Rattle.listing_count.proofs.start_room.Statement.{statement}
 use Rattle.listing_count.proofs.start_room.Tie as tie
@@ -12,22 +13,22 @@ values-room-requires c κs = search needs
 digits-requires : tie.Need-digits-requires
 digits-requires c κs = search needs
 
-add-less : tie.Need-add-less
-add-less c = search needs
+add-difference-usize : tie.Need-add-difference-usize
+add-difference-usize c = search needs
 
 digits-requires-2 : tie.Need-digits-requires-2
 digits-requires-2 c κs = search needs
 
-add-less-2 : tie.Need-add-less-2
-add-less-2 c = search needs
+add-difference-usize-2 : tie.Need-add-difference-usize-2
+add-difference-usize-2 c = search needs
 
-less-requires : tie.Need-less-requires
-less-requires c κs = search needs
+difference-usize-requires : tie.Need-difference-usize-requires
+difference-usize-requires c κs = search needs
 
 returns : tie.Need-returns
 returns c =
     let a = c .before .before .before .before .args in
-    omega (arith, start-length (a .conditions) (a .row) (a .known) (a .values) (a .tick), c .less .ensures, c .before .digits2 .ensures .0, c .before .before .digits .ensures .0, c .before .before .before .values-room .ensures)
+    omega (arith, start-length (a .conditions) (a .row) (a .known) (a .values) (a .tick), c .difference-usize .ensures, c .before .digits2 .ensures .0, c .before .before .digits .ensures .0, c .before .before .before .values-room .ensures)
 
 pub start-room-spec : {M : Type 1} → statement M
 start-room-spec =
@@ -35,8 +36,8 @@ start-room-spec =
     (tie.spec
     values-room-requires
     digits-requires
-    add-less
+    add-difference-usize
     digits-requires-2
-    add-less-2
-    less-requires
+    add-difference-usize-2
+    difference-usize-requires
     returns)

@@ -2,7 +2,7 @@
 -- Assumes nothing.
 use native.Mathlib.Omega.{arith}
 use borrow.Author.Tests.{le-leb, lt-leb}
-use Rattle.listing_parts.specs.Parts.{most-bytes}
+use Rattle.listing_count.specs.Parts.{most-bytes}
 use Rattle.listing_count.specs.Ample.{ample}
 use borrow.Author.Needs.{needs}
 use Rattle.listing_count.proofs.suffice.Statement.{statement}

@@ -1,11 +1,11 @@
--- `listing_count::values_room` meets its contract: before turn k the conditions from k on are still to be taken from the room. The bits of the
--- word halve, so that k and the word together never grow.
+-- `listing_count::values_room` meets its contract: before turn k the conditions from k on are still to be taken from
+-- the room. The bits of the word halve, so that k and the word together never grow.
 -- Assumes nothing.
 use mathlib.Core.Path.{_≡_}
 use native.Mathlib.Omega.{arith}
 use Prim.Native.Nat.{_+_, _-_, _≤_}
-use Rattle.listing_parts.specs.Parts.{value-at, values-from}
-use Rattle.listing_parts.proofs.Cases.{values-next, values-past, values-none}
+use Rattle.listing_count.specs.Parts.{value-at, values-from}
+use Rattle.listing_count.proofs.Cases.{values-next, values-past, values-none}
 use Rattle.listing_count.proofs.Leaving.{Leaving, leaving-start, leaving-next, leaving-end}
 use Rattle.listing_count.proofs.values_room.Statement.{statement}
 use borrow.Author.Needs.{needs}

@@ -12,10 +12,10 @@ how-many-requires c κs = search needs
 all-entries-requires : tie.Need-all-entries-requires
 all-entries-requires c κs =
     let s = c .before .before .before .before .before in
-    let o = s .pre .0 .boarded in
+    let o = s .pre .0 .indexed in
     let n = c .before .before .before .before .how-many in (
       (
-        omega (arith, o .tell-row, o .few-processes, o .few-edges, o .few-conditions),
+        omega (arith, o .first-condition-row, o .few-processes, o .few-edges, o .few-conditions),
         o .few-conditions,
         n .ensures .1,
         omega (arith, o .row-count, o .processes-count, o .edges-count, o .conditions-count, o .few-processes, o .few-edges, o .few-conditions),

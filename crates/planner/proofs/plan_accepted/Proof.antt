@@ -1,4 +1,5 @@
--- `planner::plan_accepted` meets its contract: the logs of all combinations are those of the board's plan, and what is written from them is its answer.
+-- `planner::plan_accepted` meets its contract: the logs of all combinations are those of the plan index's plan, and
+-- what is written from them is its answer.
 -- Assumes nothing.
 use mathlib.Core.Path.{ap, _∙_}
 use Prim.Native.Nat.{ℕ}
@@ -14,10 +15,10 @@ of-plan-requires c κs = search needs
 no-clocks-requires : tie.Need-no-clocks-requires
 no-clocks-requires c κs = search needs
 
-all-courses-requires : tie.Need-all-courses-requires
-all-courses-requires c κs =
+plan-combinations-requires : tie.Need-plan-combinations-requires
+plan-combinations-requires c κs =
     let s = c .before .before .before .before .before .before .before in (
-      record { plan = lines (s .args .p); passes = s .pre; boarded = c .before .before .before .before .of-plan .ensures },
+      record { plan = lines (s .args .p); passes = s .pre; indexed = c .before .before .before .before .of-plan .ensures },
       (
         length-replicate {A = ℕ} 12672 1,
         length-replicate {A = ℕ} 12672 1,
@@ -30,7 +31,7 @@ write-all-requires c κs =
     let s = c .before .before .before .before .before .before .before .before .before .before .before .before .before in
     let p = lines (s .args .p) in
     let o = c .before .before .before .before .before .before .before .before .before .before .of-plan .ensures in
-    record { plan = p; passes = s .pre; boarded = o; all = c .before .before .before .before .before .all-courses .ensures p (s .pre) o }
+    record { plan = p; passes = s .pre; indexed = o; all = c .before .before .before .before .before .plan-combinations .ensures p (s .pre) o }
 
 same-length : tie.Need-same-length
 same-length c = search needs
@@ -43,7 +44,7 @@ returns c =
     let s = c .before .before .before .before .before .before .before .before .before .before .before .before .before .before .before .before .before .before in
     let p = lines (s .args .p) in
     let o = c .before .before .before .before .before .before .before .before .before .before .before .before .before .before .before .of-plan .ensures in
-    c .before .before .before .before .write-all .ensures p (s .pre) o (c .before .before .before .before .before .before .before .before .before .before .all-courses .ensures p (s .pre) o)
+    c .before .before .before .before .write-all .ensures p (s .pre) o (c .before .before .before .before .before .before .before .before .before .before .plan-combinations .ensures p (s .pre) o)
 
 pub plan-accepted-spec : {M : Type 1} → statement M
 plan-accepted-spec =
@@ -51,7 +52,7 @@ plan-accepted-spec =
     (tie.spec
     of-plan-requires
     no-clocks-requires
-    all-courses-requires
+    plan-combinations-requires
     write-all-requires
     same-length
     same-length-2

@@ -2,7 +2,7 @@
 -- Assumes nothing.
 use mathlib.Core.Path.{refl, sym, ap, _∙_}
 use Rattle.plan.specs.Memory.{lines}
-use Rattle.refusals.specs.Refusing.{refusal-of}
+use Rattle.plan_refusals.specs.Answer.{refusal-of}
 use Rattle.planner.proofs.Answering.{answer-refused, refused-answers}
 use borrow.Author.Needs.{needs}
 use Rattle.planner.proofs.plan_table.Statement.{statement}

@@ -1,4 +1,5 @@
--- `planner::write_all` meets its contract: the entries and frames listed are the model's, and each is written only where all lent words suffice.
+-- `planner::write_all` meets its contract: the entries and frames listed are the model's, and each is written only
+-- where all lent words suffice.
 -- Assumes nothing.
 use mathlib.Core.Path.{_≡_, refl, sym, _∙_, subst}
 use Prim.Native.Nat.{ℕ, _≤_, _<_}
@@ -6,8 +7,8 @@ use native.Mathlib.Omega.{arith}
 use lib.ListN.{length-replicate}
 use Rattle.model.specs.Plan.{Lines}
 use Rattle.model.specs.Refusals.{nothing, plan-refusal}
-use Rattle.board.specs.Board.{Boarded}
-use Rattle.courses.specs.Courses.{Planned-all}
+use Rattle.plan_index.specs.Indexed.{Indexed}
+use Rattle.planner_combinations.specs.Combinations.{Planned-all}
 use Rattle.planner.specs.Planner.{Entered}
 use Rattle.planner.proofs.Answering.{answer-ten, answer-eleven, answer-made, refused-answers, made-answers}
 use Rattle.planner.proofs.Entering.{logs}
@@ -16,12 +17,12 @@ use borrow.Author.Needs.{needs}
 use Rattle.planner.proofs.write_all.Statement.{statement}
 use Rattle.planner.proofs.write_all.Tie as tie
 
--- a plan that the board is of, and whose logs and totals are given
+-- a plan that the plan index is of, and whose logs and totals are given
 abbrev Of : tie.Start → Lines → Type 0
-Of s p = (plan-refusal p ≡ nothing) × Boarded p (s .args .t1) × Planned-all p (s .args .t1 .span) (s .args .t) (s .args .comes .now) (s .args .place .now) (s .args .since .now)
+Of s p = (plan-refusal p ≡ nothing) × Indexed p (s .args .t1) × Planned-all p (s .args .t1 .span) (s .args .t) (s .args .comes .now) (s .args .place .now) (s .args .since .now)
 
 some : (s : tie.Start) → Of s (s .pre .plan)
-some s = let i = s .pre in (i .passes, i .boarded, i .all)
+some s = let i = s .pre in (i .passes, i .indexed, i .all)
 
 -- the entries listed are those of the plan's table
 listed : (d : tie.After-list-entries) (p : Lines) → Of (d .before .before .before .before .before .before) p → Entered p (d .list-entries .last .1 .1 .1 .1 .0) (d .list-entries .last .1 .1 .1 .1 .1 .0) (d .list-entries .result)
@@ -62,14 +63,14 @@ collect-requires c κs =
     let d = c .before .before .before .before .before .before .before in
     let s = d .before .before .before .before .before .before in
     let i = s .pre in
-    (rows-of (s .args .t1) _ _ _ (i .plan) (i .boarded) (listed d (i .plan) (some s)), length-replicate {A = ℕ} 12672 1)
+    (rows-of (s .args .t1) _ _ _ (i .plan) (i .indexed) (listed d (i .plan) (some s)), length-replicate {A = ℕ} 12672 1)
 
 write-both-requires : tie.Need-write-both-requires
 write-both-requires c κs =
     let d = c .before .before .before .before .before in
     let s = d .before .before .before .before .before .before .before .before .before .before .before .before .before .before in
     let i = s .pre in
-    let o = i .boarded in
+    let o = i .indexed in
     let l = laid-of (s .args .t1) _ _ _ (i .plan) o (listed (d .before .before .before .before .before .before .before .before) (i .plan) (some s)) in
     let f = collected d (i .plan) (some s) in (
       (omega (arith, o .row-count, o .processes-count, o .edges-count, o .conditions-count, o .few-processes, o .few-edges, o .few-conditions), l .0, omega (arith, l .1, d .before .before .before .before .before .before .before .if1 .left)),
@@ -80,7 +81,7 @@ pass-overs-requires : tie.Need-pass-overs-requires
 pass-overs-requires c κs =
     let s = c .before .before .before .before .before .before .before .before .before .before .before .before .before .before .before .before .before .before .before .before .before .before .before .before .before .before in
     let i = s .pre in
-    (i .boarded .few-slots, λ n l. i .all .passed-few n (subst (λ (k : ℕ). n < k) (i .boarded .slots-count) l))
+    (i .indexed .few-slots, λ n l. i .all .passed-few n (subst (λ (k : ℕ). n < k) (i .indexed .slots-count) l))
 
 mul-t36 : tie.Need-mul-t36
 mul-t36 c = omega (arith, few (c .before .before .before .before .before .before .before .before .before .before .before .before .before .before .before .before .before .before .before .before .before))

@@ -3,7 +3,7 @@
 use Prim.Native.Nat.{ℕ}
 use lib.ListN.{length-replicate}
 use borrow.Author.Needs.{needs}
-use Rattle.plan_reader.proofs.Told.{accepted}
+use Rattle.text_reader.proofs.ReadCases.{accepted}
 use Rattle.program.proofs.Reading.{refused-prints, read-prints}
 use Rattle.program.proofs.print_plan.Statement.{statement}
 use Rattle.program.proofs.print_plan.Tie as tie

@@ -1,4 +1,5 @@
--- `riscadru_plan::listing_room` meets its contract: so many zeros are so many bytes. (Without this, the length would be counted out.)
+-- `riscadru_plan::listing_room` meets its contract: so many zeros are so many bytes. (Without this, the length would be
+-- counted out.)
 -- Assumes nothing.
 use Prim.Native.Nat.{ℕ}
 use lib.ListN.{length-replicate}

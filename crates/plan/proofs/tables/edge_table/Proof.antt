@@ -21,8 +21,8 @@ Inv-loop p n from₀ to₀ bytes₀ kind₀ condition₀ i₀ from to bytes kind
 abbrev μ-loop : tie.MeasureT-loop
 μ-loop p n from₀ to₀ bytes₀ kind₀ condition₀ i₀ from to bytes kind condition i = n - i
 
-at-most-requires : tie.Need-at-most-requires Inv-loop μ-loop
-at-most-requires c κs = search needs
+lesser-usize-requires : tie.Need-lesser-usize-requires Inv-loop μ-loop
+lesser-usize-requires c κs = search needs
 
 loop-holds : tie.Need-loop-holds Inv-loop μ-loop
 unfolding fill
@@ -110,7 +110,7 @@ edge-table-spec =
     (tie.spec
     Inv-loop
     μ-loop
-    at-most-requires
+    lesser-usize-requires
     loop-holds
     mul-e
     element-copy-out-e

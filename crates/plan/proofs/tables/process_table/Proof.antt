@@ -20,8 +20,8 @@ Inv-loop p n node₀ ticks₀ any₀ i₀ node ticks any i =
 abbrev μ-loop : tie.MeasureT-loop
 μ-loop p n node₀ ticks₀ any₀ i₀ node ticks any i = n - i
 
-at-most-requires : tie.Need-at-most-requires Inv-loop μ-loop
-at-most-requires c κs = search needs
+lesser-usize-requires : tie.Need-lesser-usize-requires Inv-loop μ-loop
+lesser-usize-requires c κs = search needs
 
 loop-holds : tie.Need-loop-holds Inv-loop μ-loop
 unfolding fill
@@ -90,7 +90,7 @@ process-table-spec =
     (tie.spec
     Inv-loop
     μ-loop
-    at-most-requires
+    lesser-usize-requires
     loop-holds
     mul-q
     element-copy-out-q

@@ -19,8 +19,8 @@ Inv-loop p n node₀ bytes₀ i₀ node bytes i =
 abbrev μ-loop : tie.MeasureT-loop
 μ-loop p n node₀ bytes₀ i₀ node bytes i = n - i
 
-at-most-requires : tie.Need-at-most-requires Inv-loop μ-loop
-at-most-requires c κs = search needs
+lesser-usize-requires : tie.Need-lesser-usize-requires Inv-loop μ-loop
+lesser-usize-requires c κs = search needs
 
 loop-holds : tie.Need-loop-holds Inv-loop μ-loop
 unfolding fill
@@ -74,7 +74,7 @@ slot-table-spec =
     (tie.spec
     Inv-loop
     μ-loop
-    at-most-requires
+    lesser-usize-requires
     loop-holds
     mul-s
     element-copy-out-s

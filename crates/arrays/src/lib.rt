@@ -1,0 +1,18 @@
+// Numbers and arrays of numbers, for every family: the greater and the lesser of two, a difference that stops at 0, and
+// arrays of zeros by what they are for. Nothing here speaks of planning.
+// Document 01: "plan arrays of 128 edges made as [v; 128], the plan struct starting empty"
+mod numbers;
+mod zeros;
+
+pub use numbers::difference;
+pub use numbers::difference_usize;
+pub use numbers::greater;
+pub use numbers::greater_u64;
+pub use numbers::lesser;
+pub use numbers::lesser_usize;
+pub use numbers::wide;
+pub use zeros::no_counts;
+pub use zeros::no_edges;
+pub use zeros::no_processes;
+pub use zeros::no_rows;
+pub use zeros::none_noted;

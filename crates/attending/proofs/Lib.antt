@@ -1,3 +1,0 @@
--- Waits has what stands in the array of the messages that wait, Attends that the nodes for which nothing is new need not be looked up.
-pub mod Waits
-pub mod Attends

@@ -1,0 +1,4 @@
+-- Laws of the timetable: TimetableOfModel (what the arrays give is what the model says of the plan's lines), Beginnings
+-- (how early and how late a slot begins).
+pub mod TimetableOfModel
+pub mod Beginnings

@@ -1,0 +1,138 @@
+-- For a plan in which refusals 2 to 9 find nothing, the timetable of its arrays is that of its lines.
+-- Assumes nothing.
+use mathlib.Core.Path.{_≡_, refl, ap, _∙_}
+use mathlib.Core.Bool.{Bool, true, false}
+use mathlib.Core.List.{List, [], _∷_, map, List·Memᴰ as In, List·Memᴰ·head as here, List·Memᴰ·tail as there}
+use Prim.Native.Nat.{ℕ, _+_, _*_, _≤_, _<_}
+use native.Mathlib.Nat.{mul-le-mul}
+use native.Mathlib.Omega.{arith}
+use lib.Dec.{eqb}
+use lib.ListN.{length, getD}
+use borrow.Author.Tests.{ltb-false, leb-false, ne-eqb}
+use Rattle.lists.specs.Lists.{if_then_else_, sum, below, fill}
+use Rattle.lists.proofs.Tests.{neither}
+use Rattle.lists.proofs.Members.{none-in, in-getD}
+use Rattle.lists.proofs.Places.{list-below}
+use Rattle.lists.proofs.Fill.{fill-at}
+use Rattle.model.specs.Plan.{Lines, Slot}
+use Rattle.model.specs.Bus.{slot-ticks, round, offset-among, offset, first-beginning}
+use Rattle.model.specs.Refusals.{outside, nothing, wrong-counts, wrong-sizes, no-node, wrong-nodes, plan-refusal}
+use Rattle.laws.proofs.Good.{Good, pass, good}
+use Rattle.laws.proofs.Slots.{slot-ticks-one, slot-in-round}
+use Rattle.plan.specs.declared.Plan.{Plan}
+use Rattle.plan.specs.Memory.{lines}
+use Rattle.plan.specs.Tables.{slots-table}
+use Rattle.plan.specs.Tests.{slot-bytes}
+use Rattle.plan.proofs.TestsOnLines.{Few, few, counts-same, slots-length, slot-node, slot-room, room-same}
+use Rattle.bus_timetable.specs.declared.Timetable.{Timetable}
+use Rattle.bus_timetable.specs.Bus.{beginning-at, ticks-before, Small, table-of, Timed}
+
+abbrev none : Slot
+none = record { node = 0; bytes = 0 }
+
+module _ (p : Lines) where
+  -- before a node that has no slot lie all slots; before any, at most all
+  before-all : (n : ℕ) (ss : List Slot) → ((s : Slot) → In s ss → s .node < n) → offset-among p ss n ≡ sum (map (slot-ticks p) ss)
+  unfolding offset-among
+  before-all n [] h = refl
+  before-all n (s ∷ ss) h =
+      rw (ne-eqb (s .node) n (λ q. omega (arith, h s (here refl)))) (ap (λ (k : ℕ). slot-ticks p s + k) (before-all n ss (λ s m. h s (there m))))
+
+  before-most : (n : ℕ) (ss : List Slot) → offset-among p ss n ≤ sum (map (slot-ticks p) ss)
+  unfolding offset-among
+  before-most n [] = omega arith
+  before-most n (s ∷ ss) = at (eqb (s .node) n) (before-most n ss)
+    where
+      at : (b : Bool) → offset-among p ss n ≤ sum (map (slot-ticks p) ss) → (if b then 0 else slot-ticks p s + offset-among p ss n) ≤ slot-ticks p s + sum (map (slot-ticks p) ss)
+      at true r = omega arith
+      at false r = omega arith
+
+  sum-most : (ss : List Slot) → ((s : Slot) → In s ss → slot-ticks p s ≤ 64000) → sum (map (slot-ticks p) ss) ≤ 64000 * length ss
+  sum-most [] h = omega arith
+  sum-most (s ∷ ss) h = omega (arith, h s (here refl), sum-most ss (λ s m. h s (there m)))
+
+  module _ (g : Good p) where
+    round-most : round p ≤ 512000
+    unfolding slot-ticks
+    round-most =
+        let l = sum-most (p .slots) (λ s m. let r : s .bytes * p .byte ≤ 64 * 1000 = mul-le-mul (g .slot-most s m) (g .byte-most) in omega arith) in
+        omega (arith, g .few-slots)
+
+module _ (p : Plan) (h : plan-refusal (lines p) ≡ nothing) where
+  kept : Good (lines p)
+  kept = good (lines p) h
+
+  fits : Few p
+  unfolding plan-refusal
+  fits = few p (counts-same p ∙ pass 2 _ _ h .0)
+
+  some-slot : 1 ≤ length (lines p .slots)
+  unfolding plan-refusal wrong-counts outside
+  some-slot =
+      let a = neither _ _ (neither _ _ (neither _ _ (pass 2 _ _ h .0) .0) .0) in
+      ltb-false (length (lines p .slots)) 1 (neither _ _ (a .0) .0)
+
+  node-below : (s : Slot) → In s (lines p .slots) → s .node < 8
+  unfolding plan-refusal wrong-nodes no-node
+  node-below s m =
+      let s2 = pass 2 (wrong-counts (lines p)) _ h in
+      let s3 = pass 3 (wrong-sizes (lines p)) _ (s2 .1) in
+      let s4 = pass 4 (wrong-nodes (lines p)) _ (s3 .1) in
+      let b = neither _ _ (s4 .0) in
+      let a = neither _ _ (b .0) in
+      let l : s .node < length (lines p .slots) = leb-false _ _ (none-in (λ s. no-node (lines p) (s .node)) (a .0) m) in
+      omega (arith, kept .few-slots)
+
+  byte-same : p .byte ≡ lines p .byte
+  unfolding lines
+  byte-same = refl
+
+  pub small : Small (p .byte) (slots-table p .bytes) (p .slots)
+  small =
+      record {
+        few = fits .slots;
+        short = omega (arith, byte-same, kept .byte-most);
+        sizes = λ i l.
+            let m = in-getD (lines p .slots) i none (omega (arith, slots-length p)) in
+            omega (arith, slot-room p fits i, kept .slot-most (getD (lines p .slots) i none) m);
+      }
+
+  before-among : (n : ℕ) (is : List ℕ) →
+      ticks-before (p .byte) (slots-table p .node) (slots-table p .bytes) n is ≡ offset-among (lines p) (map (λ i. getD (lines p .slots) i none) is) n
+  unfolding ticks-before offset-among slot-ticks
+  before-among n [] = refl
+  before-among n (i ∷ is) = λ j. if eqb (slot-node p fits i j) n then 0 else slot-room p fits i j * byte-same j + before-among n is j
+
+  before-same : (n : ℕ) → ticks-before (p .byte) (slots-table p .node) (slots-table p .bytes) n (below (p .slots)) ≡ offset (lines p) n
+  unfolding offset
+  before-same n = before-among n (below (p .slots)) ∙ ap (λ (ss : List Slot). offset-among (lines p) ss n) (list-below none (lines p .slots) (p .slots) (slots-length p))
+
+  pub timed : Timed (lines p) (table-of (p .byte) (slots-table p .node) (slots-table p .bytes) (p .slots))
+  unfolding table-of slot-ticks offset
+  timed =
+      let rounds : ticks-before (p .byte) (slots-table p .node) (slots-table p .bytes) 8 (below (p .slots)) ≡ round (lines p) =
+      before-same 8 ∙ before-all (lines p) 8 (lines p .slots) node-below in
+      let within : (n : ℕ) → n < length (lines p .slots) → n < p .slots = λ n l. omega (arith, slots-length p) in
+      let offsets : (n : ℕ) → n < length (lines p .slots) → getD (fill 8 (λ n. ticks-before (p .byte) (slots-table p .node) (slots-table p .bytes) n (below (p .slots))) (p .slots)) n 0 ≡ offset (lines p) n =
+      λ n l. fill-at 8 (λ n. ticks-before (p .byte) (slots-table p .node) (slots-table p .bytes) n (below (p .slots))) (p .slots) n (fits .slots) (within n l) ∙ before-same n in
+      let m = in-getD (lines p .slots) 0 none some-slot in
+      let one = slot-ticks-one (lines p) kept (getD (lines p .slots) 0 none) m in
+      let least = slot-in-round (lines p) kept (getD (lines p .slots) 0 none) m in
+      record {
+        rounds = rounds;
+        offsets = offsets;
+        lasts = λ n l.
+            fill-at 8 (λ n. slot-bytes (slots-table p .node) (slots-table p .bytes) n (below (p .slots)) * p .byte) (p .slots) n (fits .slots) (within n l)
+            ∙ (λ j. room-same p fits n j * byte-same j);
+        rooms = λ n l.
+            fill-at 8 (λ n. slot-bytes (slots-table p .node) (slots-table p .bytes) n (below (p .slots))) (p .slots) n (fits .slots) (within n l) ∙ room-same p fits n;
+        round-one = omega (arith, rounds, one, least);
+        round-most = omega (arith, rounds, round-most (lines p) kept);
+        offset-most = λ n l. omega (arith, rounds, offsets n l, before-most (lines p) n (lines p .slots));
+      }
+
+-- The slot search on a timetable's numbers is the model's.
+pub first-of : {p : Lines} {t : Timetable} → Timed p t → (n : ℕ) → n < length (p .slots) → (u : ℕ) →
+    beginning-at (t .round) (getD (t .offset) n 0) u ≡ first-beginning p n u
+unfolding beginning-at first-beginning
+first-of w n l u = λ j. beginning-at (w .rounds j) (w .offsets n l j) u

@@ -1,0 +1,58 @@
+-- The bus of a plan as arrays of numbers by node: what the arrays of slots give, and what a timetable says of a plan's
+-- lines.
+-- Assumes nothing.
+use mathlib.Core.Path.{_≡_}
+use mathlib.Core.List.{List, [], _∷_}
+use Prim.Native.Nat.{ℕ, _+_, _-_, _*_, _%_, _≤_, _<_}
+use lib.Dec.{eqb, leb}
+use lib.ListN.{length, getD}
+use Rattle.limits.specs.Limits.{ROUNDTICKS}
+use Rattle.lists.specs.Lists.{if_then_else_, below, fill}
+use Rattle.model.specs.Plan.{Lines}
+use Rattle.model.specs.Bus.{slot-ticks, round, slot-of, offset}
+use Rattle.plan.specs.Tests.{at, slot-bytes}
+use Rattle.bus_timetable.specs.declared.Place.{Place}
+use Rattle.bus_timetable.specs.declared.Timetable.{Timetable}
+
+-- The first beginning at or after tick t of a slot that lies `offset` ticks into each round.
+unfoldable pub beginning-at : ℕ → ℕ → ℕ → ℕ
+beginning-at round offset t =
+    let gone : ℕ = t % round in
+    (t - gone) + (if leb gone offset then offset else round + offset)
+
+-- the ticks of the slots among `is` before a node's, or of all where it has none
+unfoldable pub ticks-before : ℕ → List ℕ → List ℕ → ℕ → List ℕ → ℕ
+ticks-before byte slot bytes node [] = 0
+ticks-before byte slot bytes node (i ∷ is) = if eqb (at slot i) node then 0 else at bytes i * byte + ticks-before byte slot bytes node is
+
+-- what refusals 2 and 3 leave of the arrays
+pub record Small (byte : ℕ) (bytes : List ℕ) (slots : ℕ) : Type 0 where
+  pub few : slots ≤ 8
+  pub short : byte ≤ 1000
+  pub sizes : (i : ℕ) → i < slots → getD bytes i 0 ≤ 64
+
+-- where a node's slot lies, and its bytes
+pub record Placed (byte : ℕ) (slot bytes : List ℕ) (slots node : ℕ) (r : Place) : Type 0 where
+  pub before : r .offset ≡ ticks-before byte slot bytes node (below slots)
+  pub room : r .bytes ≡ slot-bytes slot bytes node (below slots)
+  pub room-most : r .bytes ≤ 64
+
+-- the timetable of the arrays: no slot has node 8
+unfoldable pub table-of : ℕ → List ℕ → List ℕ → ℕ → Timetable
+table-of byte slot bytes slots =
+    record {
+      round = ticks-before byte slot bytes 8 (below slots);
+      offset = fill 8 (λ n. ticks-before byte slot bytes n (below slots)) slots;
+      ticks = fill 8 (λ n. slot-bytes slot bytes n (below slots) * byte) slots;
+      bytes = fill 8 (λ n. slot-bytes slot bytes n (below slots)) slots;
+    }
+
+-- a timetable is that of a plan's bus
+pub record Timed (p : Lines) (t : Timetable) : Type 0 where
+  pub rounds : t .round ≡ round p
+  pub offsets : (n : ℕ) → n < length (p .slots) → getD (t .offset) n 0 ≡ offset p n
+  pub lasts : (n : ℕ) → n < length (p .slots) → getD (t .ticks) n 0 ≡ slot-ticks p (slot-of p n)
+  pub rooms : (n : ℕ) → n < length (p .slots) → getD (t .bytes) n 0 ≡ slot-of p n .bytes
+  pub round-one : 1 ≤ t .round
+  pub round-most : t .round ≤ ROUNDTICKS
+  pub offset-most : (n : ℕ) → n < length (p .slots) → getD (t .offset) n 0 ≤ t .round

@@ -1,0 +1,108 @@
+// The bus of a plan in which refusals 2 to 9 find nothing: by node, where its slot lies in a round, and the first
+// beginning of it from a tick on.
+// Document 01: "A slot lasts bytes × byte ticks; a round is the sum of its slots; round 0 begins at tick 0."
+use limits::NODES;
+use limits::NONODE;
+use plan::Plan;
+use plan::slot_table;
+ghost use mathlib.Core.Path.{_≡_};
+ghost use Prim.Native.Nat.{_<_};
+ghost use Rattle.model.specs.Refusals.{nothing, plan-refusal};
+ghost use Rattle.plan.specs.Memory.{lines};
+ghost use Rattle.bus_timetable.specs.Bus.{beginning-at, Small, Placed, table-of, Timed};
+
+// The ticks of a round and, by node, the ticks from its beginning to the node's slot, the slot's ticks and its bytes.
+pub struct Timetable {
+    pub round: u32,
+    pub offset: [u32; NODES],
+    pub ticks: [u32; NODES],
+    pub bytes: [u32; NODES],
+}
+
+// where a node's slot lies, and its bytes
+struct Place {
+    offset: u32,
+    bytes: u32,
+}
+
+// The first beginning, at or after a tick, of a slot that lies `offset` ticks into each round.
+pub fn first_beginning(round: u32, offset: u32, tick: u32) -> u32
+    requires { ⌜ (0 < round) × (round < 4194304) × (offset < 4194304) × (tick < 2147483648) ⌝ }
+    ensures { λ r. ⌜ r ≡ beginning-at round offset tick ⌝ }
+{
+    let gone = tick % round;
+    let begun = tick - gone;
+    if gone <= offset {
+        return begun + offset;
+    }
+    begun + (round + offset)
+}
+
+// The ticks before a node's slot, and its bytes: those of all slots, and 0, where it has none.
+fn find<'a>(
+    slot: &'a [u32; NODES],
+    bytes: &'a [u32; NODES],
+    slots: usize,
+    byte: u32,
+    node: u32,
+) -> Place
+    requires { ⌜ Small byte (now bytes) slots ⌝ }
+    ensures { λ r. ⌜ Placed byte (now (slot .entry)) (now (bytes .entry)) slots node r ⌝ }
+{
+    let mut sum: u32 = 0;
+    let mut i: usize = 0;
+    while i < slots {
+        let b = bytes[i];
+        let next = sum + b * byte;
+        if slot[i] == node {
+            let offset = sum;
+            return Place { offset, bytes: b };
+        }
+        sum = next;
+        i += 1;
+    }
+    Place {
+        offset: sum,
+        bytes: 0,
+    }
+}
+
+// The timetable of the slots in these arrays. No slot has node 8, so that the slots before its are all.
+fn of_slots<'a>(
+    slot: &'a [u32; NODES],
+    bytes: &'a [u32; NODES],
+    slots: usize,
+    byte: u32,
+) -> Timetable
+    requires { ⌜ Small byte (now bytes) slots ⌝ }
+    ensures { λ r. ⌜ r ≡ table-of byte (now (slot .entry)) (now (bytes .entry)) slots ⌝ }
+{
+    let mut offset = [0u32; NODES];
+    let mut ticks = [0u32; NODES];
+    let mut room = [0u32; NODES];
+    let mut n: usize = 0;
+    while n < slots {
+        let s = find(slot, bytes, slots, byte, n as u32);
+        let b = s.bytes;
+        offset[n] = s.offset;
+        ticks[n] = b * byte;
+        room[n] = b;
+        n += 1;
+    }
+    let all = find(slot, bytes, slots, byte, NONODE);
+    Timetable {
+        round: all.offset,
+        offset,
+        ticks,
+        bytes: room,
+    }
+}
+
+// The timetable of a plan.
+pub fn of_plan(p: Plan) -> Timetable
+    requires { ⌜ plan-refusal (lines p) ≡ nothing ⌝ }
+    ensures { λ r. ⌜ Timed (lines p) r ⌝ }
+{
+    let s = slot_table(p);
+    of_slots(&s.node, &s.bytes, p.slots, p.byte)
+}

@@ -1,2 +1,0 @@
--- Gathering (groups in an array).
-pub mod Gathering

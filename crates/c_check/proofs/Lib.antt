@@ -1,0 +1,8 @@
+-- Laws of a table of many entries: Entry (an entry that is copied is the table's), ManyRefused (the answer to more
+-- entries than combinations times rows).
+pub mod Entry
+pub mod ManyRefused
+-- Laws of a table lent as bytes: Copied (words that are copied are the table's).
+pub mod Copied
+-- Laws of a table checked for a text that is read: Checks (the number answered).
+pub mod Checks

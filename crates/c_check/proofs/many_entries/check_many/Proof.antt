@@ -1,0 +1,57 @@
+-- `c_check::check_many` meets its contract: 13 where an entry is ill-formed, and else 14, since there are more entries
+-- than rows and combinations.
+-- Assumes nothing.
+use mathlib.Core.Path.{sym, ap, _∙_}
+use Prim.Native.Nat.{ℕ, _%_}
+use native.Mathlib.Omega.{arith}
+use borrow.Author.Needs.{needs}
+use Rattle.model.specs.Firmware.{words-of}
+use Rattle.plan.specs.Memory.{lines}
+use Rattle.c_words.proofs.Reading.{words-small}
+use Rattle.checker_rows.specs.MetRows.{Small}
+use Rattle.checker_rules.proofs.FormOfModel.{formed-told}
+use Rattle.checker.proofs.FirstAnswers.{answer-13}
+use Rattle.c_check.proofs.ManyRefused.{answer-14}
+use Rattle.c_check.proofs.many_entries.check_many.Statement.{statement}
+use Rattle.c_check.proofs.many_entries.check_many.Tie as tie
+
+of-plan-requires : tie.Need-of-plan-requires
+of-plan-requires c κs = search needs
+
+combinations-of-requires : tie.Need-combinations-of-requires
+combinations-of-requires c κs = search needs
+
+some-ill-formed-requires : tie.Need-some-ill-formed-requires
+some-ill-formed-requires c κs = search needs
+
+returns : tie.Need-returns
+returns c =
+    let told = c .before in
+    let many = told .before .before .before in
+    let planindex = many .before in
+    let known = planindex .before in
+    let s = known .before in
+    let a = s .args in
+    let words = words-of (a .bytes .now) in
+    let small : Small words = words-small (a .bytes .now) (λ i. omega (arith, known .shared-slice-known .given i)) in
+    answer-13 (lines (a .p)) words (a .delay) (ap (λ (n : ℕ). n % 5) (sym (s .pre .1 .0)) ∙ s .pre .1 .1)
+    (formed-told (lines (a .p)) (planindex .of-plan .result) (planindex .of-plan .ensures) (many .combinations-of .result) (many .combinations-of .ensures .0) words small
+    (told .some-ill-formed .ensures) (c .if1 .taken))
+
+returns-2 : tie.Need-returns-2
+returns-2 c =
+    let told = c .before in
+    let many = told .before .before .before in
+    let planindex = many .before in
+    let known = planindex .before in
+    let s = known .before in
+    let a = s .args in
+    let words = words-of (a .bytes .now) in
+    let small : Small words = words-small (a .bytes .now) (λ i. omega (arith, known .shared-slice-known .given i)) in
+    answer-14 (lines (a .p)) words (a .delay) (s .pre .0) (ap (λ (n : ℕ). n % 5) (sym (s .pre .1 .0)) ∙ s .pre .1 .1)
+    (formed-told (lines (a .p)) (planindex .of-plan .result) (planindex .of-plan .ensures) (many .combinations-of .result) (many .combinations-of .ensures .0) words small
+    (told .some-ill-formed .ensures) (c .if1 .left))
+    (omega (arith, s .pre .1 .0, s .pre .1 .2))
+
+pub check-many-spec : {M : Type 1} → statement M
+check-many-spec = tie.close (tie.spec of-plan-requires combinations-of-requires some-ill-formed-requires returns returns-2)

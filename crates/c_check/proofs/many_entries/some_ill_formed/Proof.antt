@@ -1,0 +1,79 @@
+-- `c_check::some_ill_formed` meets its contract: before each turn what is left of the table gives the whole answer.
+-- Assumes nothing.
+use mathlib.Core.Path.{_≡_, refl, sym, _∙_}
+use mathlib.Core.Bool.{Bool}
+use Prim.Native.Nat.{_+_, _-_, _%_, _≤_}
+use native.Mathlib.Omega.{arith}
+use lib.ListN.{length}
+use borrow.Author.Needs.{needs}
+use Rattle.model.specs.Firmware.{words-of}
+use Rattle.model.specs.Table.{Entry}
+use Rattle.checker_rules.specs.EntryForm.{ill-formed-by}
+use Rattle.checker_rules.proofs.EntryCases.{Rest, rest-next, rest-found, rest-none}
+use Rattle.c_check.proofs.many_entries.some_ill_formed.Statement.{statement}
+use Rattle.c_check.proofs.many_entries.some_ill_formed.Tie as tie
+
+abbrev Inv-loop : tie.InvT-loop
+Inv-loop bytes n processes conditionrow rows combinations remote at₀ at =
+    (at % 5 ≡ 0) × (at ≤ n) × Rest (ill-formed-by processes conditionrow rows combinations remote) (words-of bytes) at
+
+abbrev μ-loop : tie.MeasureT-loop
+μ-loop bytes n processes conditionrow rows combinations remote at₀ at = n - at
+
+loop-holds : tie.Need-loop-holds Inv-loop μ-loop
+loop-holds c = (omega arith, omega arith, refl)
+
+ill-formed-at-requires : tie.Need-ill-formed-at-requires Inv-loop μ-loop
+ill-formed-at-requires c κs =
+    let l = c .before in
+    let s = l .before .before in
+    (omega (arith, l .loop .inv .0, l .loop .inv .1, s .pre .0, s .pre .1), s .pre .2)
+
+returns : tie.Need-returns Inv-loop μ-loop
+returns c =
+    let l = c .before .before .before in
+    let s = l .before .before in
+    let a = s .args in
+    let f : Entry → Bool = ill-formed-by (a .processes) (a .conditionrow) (a .rows) (a .combinations) (a .remote .now) in
+    rest-found f (words-of (a .bytes .now)) (l .loop .at) (omega (arith, l .loop .inv .0, l .loop .inv .1, s .pre .0, s .pre .1)) (sym (c .before .ill-formed-at .ensures) ∙ c .if1 .taken) (l .loop .inv .2)
+
+add-at : tie.Need-add-at Inv-loop μ-loop
+add-at c =
+    let l = c .before .before .before in
+    let s = l .before .before in
+    let room : l .loop .at + 5 ≤ s .args .n = omega (arith, l .loop .inv .0, l .loop .inv .1, s .pre .0, s .pre .1) in
+    omega arith
+
+loop-less : tie.Need-loop-less Inv-loop μ-loop
+loop-less c = search needs
+
+loop-again : tie.Need-loop-again Inv-loop μ-loop
+loop-again c =
+    let l = c .before .before .before in
+    let s = l .before .before in
+    let a = s .args in
+    let f : Entry → Bool = ill-formed-by (a .processes) (a .conditionrow) (a .rows) (a .combinations) (a .remote .now) in
+    let room : l .loop .at + 5 ≤ length (words-of (a .bytes .now)) = omega (arith, l .loop .inv .0, l .loop .inv .1, s .pre .0, s .pre .1) in
+    (omega (arith, l .loop .inv .0), omega (arith, room, s .pre .0), rest-next f (words-of (a .bytes .now)) (l .loop .at) room (sym (c .before .ill-formed-at .ensures) ∙ c .if1 .left) (l .loop .inv .2))
+
+returns-2 : tie.Need-returns-2 Inv-loop μ-loop
+returns-2 c =
+    let l = c .before in
+    let s = l .before .before in
+    let a = s .args in
+    let f : Entry → Bool = ill-formed-by (a .processes) (a .conditionrow) (a .rows) (a .combinations) (a .remote .now) in
+    rest-none f (words-of (a .bytes .now)) (l .loop .at) (omega (arith, c .loop-test .left, s .pre .0)) (l .loop .inv .2)
+
+pub some-ill-formed-spec : {M : Type 1} → statement M
+some-ill-formed-spec =
+    tie.close
+    (tie.spec
+    Inv-loop
+    μ-loop
+    loop-holds
+    ill-formed-at-requires
+    returns
+    add-at
+    loop-less
+    loop-again
+    returns-2)

@@ -1,0 +1,6 @@
+-- Laws of words and bytes: Reading (the words that bytes hold), Writing (the bytes of words), Back (written words are
+-- read back), Room (how many words the array for a table has).
+pub mod Reading
+pub mod Writing
+pub mod Back
+pub mod Room

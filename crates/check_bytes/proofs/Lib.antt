@@ -1,2 +1,0 @@
--- Laws of a table lent as bytes: Copied (words that are copied are the table's).
-pub mod Copied

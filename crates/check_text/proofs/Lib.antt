@@ -1,2 +1,0 @@
--- Laws of a table checked for a text that is read: Checks (the number answered).
-pub mod Checks

@@ -1,0 +1,3 @@
+pub mod FirstRefusal
+pub mod Verdict
+pub mod Combinations

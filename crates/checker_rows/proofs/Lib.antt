@@ -1,0 +1,15 @@
+-- Laws of the rows that are due: DueMade (the array of them put together).
+pub mod DueMade
+-- RangeLoops (a test over some numbers, one by one), LogRows (a test over a log is a test over the rows of the arrays
+-- that hold it), MetBounds (what refusal 13 leaves of the arrays).
+pub mod RangeLoops
+pub mod LogRows
+pub mod MetBounds
+-- Laws of the definitions in specs/: TableWords (a table's entries one by one), ColumnBits (when an entry's column is
+-- met), RowStores (what stands in an array by row), DueOfModel (the array of due rows says what is due), MetOfModel
+-- (what the arrays say of a combination is what the model says).
+pub mod TableWords
+pub mod ColumnBits
+pub mod RowStores
+pub mod DueOfModel
+pub mod MetOfModel

@@ -1,0 +1,50 @@
+-- Refusals 15, 17 and 18 of one combination, in the words of arrays by row. `comes` has 0 where no entry of the row is
+-- met, else the met entry's tick plus what the row lasts, plus 1; `span` has what the row lasts; `known` has the known
+-- bits of the met entry's column. A clock is a tick plus 1. The other arrays are those of a plan's plan index.
+-- Assumes nothing.
+use mathlib.Core.Path.{_≡_}
+use mathlib.Core.Bool.{Bool, not, _&&_, _||_}
+use mathlib.Core.List.{List}
+use Prim.Native.Nat.{ℕ, _-_, _<_}
+use lib.Bits.{bitAnd}
+use lib.Dec.{eqb, leb}
+use lib.ListN.{getD}
+use Rattle.log_queries.specs.Reading.{placed-by, known-by}
+use Rattle.bus_timetable.specs.Bus.{beginning-at}
+use Rattle.checker_rows.specs.MetArrays.{some, start-by}
+
+-- 15: a met column has a condition that is not known by the row's tick; `conditionrow` is the row of condition 0
+module _ (comes span known : List ℕ) (conditionrow conditions : ℕ) where
+  unfoldable pub row-uses-unknown-by : ℕ → Bool
+  row-uses-unknown-by r = placed-by comes r && not (eqb (bitAnd (getD known r 0) (known-by comes conditionrow conditions (start-by comes span r))) (getD known r 0))
+
+  unfoldable pub uses-unknown-by : ℕ → Bool
+  uses-unknown-by rows = some row-uses-unknown-by 0 rows
+
+-- 17: an item's tick is not a beginning of its sender's slot
+unfoldable pub off-by : ℕ → List ℕ → List ℕ → List ℕ → List ℕ → ℕ → Bool
+off-by round offset sender comes span r =
+    placed-by comes r && not (eqb (beginning-at round (getD offset (getD sender r 0) 0) (start-by comes span r - 1)) (start-by comes span r - 1))
+
+unfoldable pub off-slot-by : ℕ → ℕ → ℕ → List ℕ → List ℕ → List ℕ → List ℕ → Bool
+off-slot-by processes rows round offset sender comes span = some (off-by round offset sender comes span) processes rows
+
+-- 18: two processes overlap on a node
+module _ (node comes span : List ℕ) where
+  unfoldable pub together-by : ℕ → ℕ → Bool
+  together-by i j =
+      placed-by comes j
+      && (eqb (getD node j 0) (getD node i 0) && not (leb (getD comes j 0) (start-by comes span i) || leb (getD comes i 0) (start-by comes span j)))
+
+  unfoldable pub overlaps-by : ℕ → Bool
+  overlaps-by i = placed-by comes i && some (together-by i) 0 i
+
+unfoldable pub overlap-by : ℕ → List ℕ → List ℕ → List ℕ → Bool
+overlap-by processes node comes span = some (overlaps-by node comes span) 0 processes
+
+-- the sender of a row is a node, and a met row's slot lies in the round
+pub record Slotted (comes sender offset : List ℕ) (round : ℕ) : Type 0 where
+  pub round-one : 0 < round
+  pub round-most : round < 4194304
+  pub nodes : (r : ℕ) → getD sender r 0 < 8
+  pub offsets : (r : ℕ) → (getD comes r 0 ≡ 0 → ⊥) → getD offset (getD sender r 0) 0 < 4194304

@@ -1,7 +1,0 @@
--- Planning from event to event is the planning of the model: Standing (what the arrays hold at an event), Noting (what is noted as values become known), Event
--- (what one event does to all that), Planned (where a run of events leads). Loops has what the proof of the loop rests on.
-pub mod Standing
-pub mod Noting
-pub mod Event
-pub mod Planned
-pub mod Loops

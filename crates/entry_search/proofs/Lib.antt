@@ -1,2 +1,0 @@
--- Laws of the search: Search (the test of an entry, and the turns of the search).
-pub mod Search

@@ -1,2 +1,0 @@
--- Laws of the checker's answers: Answers (where the plan, 12 or 13 settles them).
-pub mod Answers

@@ -1,0 +1,46 @@
+-- What the lookup's answer stands for, and the search over a table's words and a plan's arrays.
+-- Assumes nothing.
+use mathlib.Core.Bool.{Bool, true, false, _&&_}
+use mathlib.Core.List.{List, [], _∷_}
+use Prim.Native.Nat.{ℕ, suc, _+_, _-_, _≤_, _<_}
+use lib.Dec.{eqb, ltb}
+use Rattle.lists.specs.Lists.{if_then_else_}
+use Rattle.model.specs.Table.{Entry, bits-met}
+use Rattle.model.specs.Lookup.{entry, none, refusal}
+use Rattle.model.specs.Lookup as m
+use Rattle.plan.specs.Tests.{at}
+use Rattle.kernel.specs.declared.search.Found.{Found}
+use Rattle.kernel.specs.declared.search.Found.the-variants.{Entry as Numbered, None, Refused}
+
+-- the answer in memory to each answer of the model
+abbrev pub found-of : m.Found → Found
+found-of (entry i) = Numbered i
+found-of none = None
+found-of (refusal n) = Refused n
+
+-- the process that a row belongs to; `conditionrow` is the row of condition 0
+abbrev pub process-of-row : List ℕ → List ℕ → ℕ → ℕ → ℕ → ℕ
+process-of-row from decider processes conditionrow r = if ltb r processes then r else if ltb r conditionrow then at from (r - processes) else at decider (r - conditionrow)
+
+-- an entry of a row and with a column is of node n, and its column is met by the heard bits h with the values v
+unfoldable pub row-fits : List ℕ → List ℕ → List ℕ → ℕ → ℕ → ℕ → ℕ → ℕ → ℕ → ℕ → ℕ → ℕ → Bool
+row-fits from decider nodes processes conditionrow rows n h v row known values =
+    ltb row rows && eqb (at nodes (process-of-row from decider processes conditionrow row)) n && bits-met 32 known values h v
+
+-- an entry is of node n at tick t, and its column is met by the heard bits h with the values v
+unfoldable pub fits-by : List ℕ → List ℕ → List ℕ → ℕ → ℕ → ℕ → ℕ → ℕ → ℕ → ℕ → Entry → Bool
+fits-by from decider nodes processes conditionrow rows n t h v e =
+    ltb (e .row) rows && eqb (at nodes (process-of-row from decider processes conditionrow (e .row))) n && eqb (e .tick) t && bits-met 32 (e .known) (e .values) h v
+
+-- the first of some entries that passes a test, where the first of them has number i
+unfoldable pub find-by : (Entry → Bool) → List Entry → ℕ → m.Found
+find-by f [] i = none
+find-by f (e ∷ es) i = elim (f e) [ true ↦ entry i | false ↦ find-by f es (suc i) ]
+
+-- how large the numbers in a plan's arrays are: rows and processes that there are
+pub record Small (from decider : List ℕ) (processes conditionrow rows : ℕ) : Type 0 where
+  pub few-processes : processes ≤ 64
+  pub few-edges : conditionrow ≤ processes + 128
+  pub few-conditions : rows ≤ conditionrow + 6
+  pub senders : (k : ℕ) → at from k < 64
+  pub deciders : (k : ℕ) → conditionrow + k < rows → at decider k < 64

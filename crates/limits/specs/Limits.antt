@@ -1,0 +1,128 @@
+-- The limits of document 01 by name, and what follows from them, for contracts; src/lib.rt has the same names for code,
+-- each with its sentence of document 01, or its reason.
+-- Assumes nothing.
+use Prim.Native.Nat.{ℕ}
+
+-- "There are not 1 to 8 slots": the most slots that a plan has.
+abbrev pub SLOTS : ℕ
+SLOTS = 8
+
+-- Each slot is another node's (refusal 4): the most nodes.
+abbrev pub NODES : ℕ
+NODES = 8
+
+-- A number that no node has.
+abbrev pub NONODE : ℕ
+NONODE = 8
+
+-- "1 to 64 processes".
+abbrev pub PROCESSES : ℕ
+PROCESSES = 64
+
+-- "at most 6 conditions".
+abbrev pub CONDITIONS : ℕ
+CONDITIONS = 6
+
+-- "at most 128 edges".
+abbrev pub EDGES : ℕ
+EDGES = 128
+
+-- "A combination gives every condition true or false": 2 to the 6 of them.
+abbrev pub COMBINATIONS : ℕ
+COMBINATIONS = 64
+
+-- "Rows: processes, then edges, then conditions": the row of condition 0 is at most this.
+abbrev pub CONDITIONROW : ℕ
+CONDITIONROW = 192
+
+-- The most rows.
+abbrev pub ROWS : ℕ
+ROWS = 198
+
+-- Where the entries of each row end in an array, and where those of row 0 begin.
+abbrev pub ROWENDS : ℕ
+ROWENDS = 199
+
+-- Where each group of an array begins, of at most 64 groups, and where the last one ends.
+abbrev pub STARTS : ℕ
+STARTS = 65
+
+-- The most entries of a start table: one for each combination and row.
+abbrev pub ENTRIES : ℕ
+ENTRIES = 12672
+
+-- "five to an entry": their words.
+abbrev pub TABLEWORDS : ℕ
+TABLEWORDS = 63360
+
+-- The most frames of a frame list: one for each combination and item.
+abbrev pub FRAMES : ℕ
+FRAMES = 8576
+
+-- "The frame list has three words for each slot occurrence": their words.
+abbrev pub FRAMEWORDS : ℕ
+FRAMEWORDS = 25728
+
+-- "`byte` is outside 1 to 1,000": the most ticks that a byte lasts.
+abbrev pub BYTE : ℕ
+BYTE = 1000
+
+-- "slot or edge bytes outside 1 to 64": the most bytes of a slot or of a message.
+abbrev pub BYTES : ℕ
+BYTES = 64
+
+-- "ticks outside 1 to 100,000": the most ticks of a process.
+abbrev pub TICKS : ℕ
+TICKS = 100000
+
+-- "A slot lasts bytes × byte ticks": the longest slot.
+abbrev pub SLOTTICKS : ℕ
+SLOTTICKS = 64000
+
+-- "a round is the sum of its slots": the longest round.
+abbrev pub ROUNDTICKS : ℕ
+ROUNDTICKS = 512000
+
+-- "tick above 999,999,999": the last tick that a table can hold.
+abbrev pub LASTTICK : ℕ
+LASTTICK = 999999999
+
+-- "place above 63": the last byte of a frame that an item can begin at.
+abbrev pub LASTPLACE : ℕ
+LASTPLACE = 63
+
+-- A clock is a tick plus 1: the last one at which planning looks for an event. No delay reaches it.
+abbrev pub LASTCLOCK : ℕ
+LASTCLOCK = 1000000000
+
+-- A clock that stands for none: no event is left, no process ends, a value never arrives.
+abbrev pub NEVER : ℕ
+NEVER = 2000000000
+
+-- Pass-over counts noted by condition and node, as the condition's value becomes known.
+abbrev pub NOTED : ℕ
+NOTED = 48
+
+-- What is noted of a combination: these, and its last counts by node.
+abbrev pub COMBINATIONNOTES : ℕ
+COMBINATIONNOTES = 56
+
+-- The same of all combinations.
+abbrev pub NOTES : ℕ
+NOTES = 3584
+
+-- "The text exceeds 16,384 bytes": the most bytes of a plan text.
+abbrev pub TEXT : ℕ
+TEXT = 16384
+
+-- "lending 3,000 entries": the words that the planning program lends for the table.
+abbrev pub PRINTEDWORDS : ℕ
+PRINTEDWORDS = 15000
+
+-- "and 2,000 frames": the words that it lends for the frame list.
+abbrev pub PRINTEDFRAMEWORDS : ℕ
+PRINTEDFRAMEWORDS = 6000
+
+-- The bytes that it lends for a listing: no listing of so many entries and frames has more.
+abbrev pub LISTING : ℕ
+LISTING = 388100

@@ -1,2 +1,0 @@
--- Laws of runs of lines: Sofar (a run of lines while it is read).
-pub mod Sofar

@@ -1,0 +1,53 @@
+-- `listing_bytes::put_eights` meets its contract: the two parts together hold every byte of the word.
+-- Assumes nothing.
+use Rattle.listing_bytes.proofs.Halves.{put-halves}
+use borrow.Author.Needs.{needs}
+use Rattle.listing_bytes.proofs.words.put_eights.Statement.{statement}
+use Rattle.listing_bytes.proofs.words.put_eights.Tie as tie
+
+sub-rest : tie.Need-sub-rest
+sub-rest c = search needs
+
+eight-of-requires : tie.Need-eight-of-requires
+eight-of-requires c κs = search needs
+
+eight-of-requires-2 : tie.Need-eight-of-requires-2
+eight-of-requires-2 c κs = search needs
+
+slice-aggregate-put-word : tie.Need-slice-aggregate-put-word
+slice-aggregate-put-word c = search needs
+
+put-word-requires : tie.Need-put-word-requires
+put-word-requires c κs = search needs
+
+add-put-word : tie.Need-add-put-word
+add-put-word c = search needs
+
+slice-aggregate-put-word-2 : tie.Need-slice-aggregate-put-word-2
+slice-aggregate-put-word-2 c = search needs
+
+put-word-requires-2 : tie.Need-put-word-requires-2
+put-word-requires-2 c κs = search needs
+
+same-length : tie.Need-same-length
+same-length c = search needs
+
+returns : tie.Need-returns
+returns c =
+    let a = c .before .before .before .before .before .before .before .before .before .before .before .before .before .before in
+    put-halves (a .args .word .now) 8 (a .pre .0) (a .pre .1) (rw (c .before .before .before .before .before .before .before .before .before .before .before .eight-of .ensures) at (c .before .before .before .before .before .before .before .put-word .ensures)) (rw (c .before .before .before .before .before .before .before .before .before .before .eight-of2 .ensures) at (c .before .before .put-word2 .ensures))
+
+pub put-eights-spec : {M : Type 1} → statement M
+put-eights-spec =
+    tie.close
+    (tie.spec
+    sub-rest
+    eight-of-requires
+    eight-of-requires-2
+    slice-aggregate-put-word
+    put-word-requires
+    add-put-word
+    slice-aggregate-put-word-2
+    put-word-requires-2
+    same-length
+    returns)

@@ -1,0 +1,28 @@
+-- `log_queries::heard` meets its contract: what may run is worked out where the test says so, and stays as it was
+-- elsewhere.
+-- Assumes nothing.
+use mathlib.Core.Path.{_∙_, sym}
+use native.Mathlib.Omega.{arith}
+use borrow.Author.Tests.{eq-eqb, ne-eqb}
+use borrow.Author.Needs.{needs}
+use Rattle.log_queries.specs.Hearing.{heard-by}
+use Rattle.log_queries.proofs.runnable.heard.Statement.{statement}
+use Rattle.log_queries.proofs.runnable.heard.Tie as tie
+
+may-run-requires : tie.Need-may-run-requires
+may-run-requires c κs = search needs
+
+returns : tie.Need-returns
+unfolding heard-by
+returns c =
+    let a = c .before .before .args in
+    c .may-run .ensures ∙ sym (rw (eq-eqb (a .broadcastend) (a .u) (omega (arith, c .before .if1 .taken))))
+
+returns-2 : tie.Need-returns-2
+unfolding heard-by
+returns-2 c =
+    let a = c .before .args in
+    rw (ne-eqb (a .broadcastend) (a .u) (λ q. absurd (omega (arith, c .if1 .left, q))))
+
+pub heard-spec : {M : Type 1} → statement M
+heard-spec = tie.close (tie.spec may-run-requires returns returns-2)

@@ -1,2 +1,0 @@
--- Model (the arrays of a plan and its lines).
-pub mod Model

@@ -1,3 +1,0 @@
--- Laws of a plan planned into lent bytes: Putting (the planner's answer put into them), Lending (more words than a table and a frame list have are never needed).
-pub mod Putting
-pub mod Lending

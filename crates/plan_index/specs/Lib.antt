@@ -1,0 +1,5 @@
+pub mod LineArrays
+pub mod RowArrays
+pub mod Unmet
+pub mod Layout
+pub mod Indexed

@@ -1,0 +1,6 @@
+-- Gathering (groups in an array).
+pub mod Gathering
+-- Downward (urgencies from the last process down).
+pub mod Downward
+-- OrdersOfModel (the arrays of a plan and its lines).
+pub mod OrdersOfModel

@@ -1,0 +1,4 @@
+pub mod Groups
+pub mod Urgency
+pub mod Weights
+pub mod Orders

@@ -1,0 +1,4 @@
+pub mod Starts
+pub mod Busy
+pub mod Unchanged
+pub mod ChangedNodes

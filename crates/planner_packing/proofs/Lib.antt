@@ -1,0 +1,2 @@
+-- FilledParts has what the proof of `fill` rests on.
+pub mod FilledParts

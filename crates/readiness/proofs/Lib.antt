@@ -1,9 +1,0 @@
--- Laws of a log in memory: Parts (tests over a part of an array), Links (what the arrays say is what the model says), Running (the same of
--- which processes may run), Held (arrays that hold a log, and one more row of it), Placing (the rows placed and the starts and items of the log),
--- Readings (the conditions known, and the last end of a process).
-pub mod Parts
-pub mod Links
-pub mod Running
-pub mod Held
-pub mod Placing
-pub mod Readings

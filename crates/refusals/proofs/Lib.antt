@@ -1,4 +1,0 @@
--- Laws of refusals: Known (tests over the tables that code made of a plan, and tests on its lines). And for the crates above, Accepted
--- (what is read as some lines).
-pub mod Known
-pub mod Accepted

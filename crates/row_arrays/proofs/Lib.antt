@@ -1,2 +1,0 @@
--- Bounds (how large the numbers of the arrays are).
-pub mod Bounds

@@ -1,2 +1,0 @@
-// The lines of the plan text from a position on.
-pub mod lines;

@@ -1,2 +1,0 @@
--- Loops has what the proof of `fill` rests on.
-pub mod Loops

@@ -1,4 +1,0 @@
-pub mod Starting
-pub mod Busy
-pub mod Quiet
-pub mod News

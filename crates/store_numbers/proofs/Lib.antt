@@ -1,2 +1,0 @@
--- Laws of decimal digits: Digits (two and four at a time).
-pub mod Digits

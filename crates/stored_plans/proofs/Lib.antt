@@ -1,2 +1,0 @@
--- Adding has that counts are added to totals node by node.
-pub mod Adding

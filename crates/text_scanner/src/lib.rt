@@ -1,0 +1,18 @@
+// What stands at a position of a plan text: digits, words and numbers, the ends of lines, and whole lines, each equal
+// to the grammar's function there.
+// Document 01: "Line kinds stand in the order of this example"
+mod digits;
+mod line_ends;
+mod lines;
+mod words;
+
+pub use lines::EdgeAt;
+pub use lines::HeadAt;
+pub use lines::ProcessAt;
+pub use lines::SlotAt;
+pub use lines::condition;
+pub use lines::edge;
+pub use lines::head;
+pub use lines::process;
+pub use lines::slot;
+pub use words::NumberAt;

@@ -1,2 +1,0 @@
--- Downward (urgencies from the last process down).
-pub mod Downward
