@@ -1,18 +1,15 @@
 // The functions that other software calls, over numbers and byte slices. include/riscadru.h says each contract in
 // words.
 // Document 01: "The firmware calls the lookup from C with numbers and byte slices"
-pub mod checking;
-pub mod lookup;
-pub mod planning;
+mod checking;
+mod copying;
+mod lookup;
+mod planning;
 
-use c_text::copy_text;
-ghost use Rattle.c_text.specs.Copy.{Copies};
-
-// Reads a plan text and writes the plan again, to the front of the lent bytes: how many bytes were written, or a
-// refusal, 1 to 10, as 2^64 - 1 less its number, which leaves the lent bytes unchanged.
-#[no_mangle]
-pub extern "C" fn riscadru_copy_plan(text: &[u8], out: &mut [u8]) -> u64
-    ensures { λ r. ⌜ Copies (now (text .entry)) (now (out .entry)) (now (out .exit)) r ⌝ }
-{
-    copy_text(text, out)
-}
+pub use checking::riscadru_check_table;
+pub use copying::riscadru_copy_plan;
+pub use lookup::riscadru_lookup;
+pub use lookup::riscadru_row_length;
+pub use lookup::riscadru_row_start;
+pub use planning::riscadru_plan_listing;
+pub use planning::riscadru_plan_table;

@@ -50,18 +50,18 @@ use Rattle.kernel_rows.proofs.row_entries.Reads as the-row
 use Rattle.kernel_rows.proofs.row_entries.Kinds as the-row-kinds
 use Rattle.c_interface.proofs.riscadru_copy_plan.Reads as the-c-copy
 use Rattle.c_interface.proofs.riscadru_copy_plan.Kinds as the-c-copy-kinds
-use Rattle.c_interface.proofs.planning.riscadru_plan_table.Reads as the-c-plan
-use Rattle.c_interface.proofs.planning.riscadru_plan_table.Kinds as the-c-plan-kinds
-use Rattle.c_interface.proofs.planning.riscadru_plan_listing.Reads as the-c-print
-use Rattle.c_interface.proofs.planning.riscadru_plan_listing.Kinds as the-c-print-kinds
-use Rattle.c_interface.proofs.checking.riscadru_check_table.Reads as the-c-check
-use Rattle.c_interface.proofs.checking.riscadru_check_table.Kinds as the-c-check-kinds
-use Rattle.c_interface.proofs.lookup.riscadru_lookup.Reads as the-c-lookup
-use Rattle.c_interface.proofs.lookup.riscadru_lookup.Kinds as the-c-lookup-kinds
-use Rattle.c_interface.proofs.lookup.riscadru_row_start.Reads as the-c-row-start
-use Rattle.c_interface.proofs.lookup.riscadru_row_start.Kinds as the-c-row-start-kinds
-use Rattle.c_interface.proofs.lookup.riscadru_row_length.Reads as the-c-row-length
-use Rattle.c_interface.proofs.lookup.riscadru_row_length.Kinds as the-c-row-length-kinds
+use Rattle.c_interface.proofs.riscadru_plan_table.Reads as the-c-plan
+use Rattle.c_interface.proofs.riscadru_plan_table.Kinds as the-c-plan-kinds
+use Rattle.c_interface.proofs.riscadru_plan_listing.Reads as the-c-print
+use Rattle.c_interface.proofs.riscadru_plan_listing.Kinds as the-c-print-kinds
+use Rattle.c_interface.proofs.riscadru_check_table.Reads as the-c-check
+use Rattle.c_interface.proofs.riscadru_check_table.Kinds as the-c-check-kinds
+use Rattle.c_interface.proofs.riscadru_lookup.Reads as the-c-lookup
+use Rattle.c_interface.proofs.riscadru_lookup.Kinds as the-c-lookup-kinds
+use Rattle.c_interface.proofs.riscadru_row_start.Reads as the-c-row-start
+use Rattle.c_interface.proofs.riscadru_row_start.Kinds as the-c-row-start-kinds
+use Rattle.c_interface.proofs.riscadru_row_length.Reads as the-c-row-length
+use Rattle.c_interface.proofs.riscadru_row_length.Kinds as the-c-row-length-kinds
 
 -- A function with parameters of the kinds `ps` and a result of the kind `r`. For the values `a` that a call is handed,
 -- its result `z` and what is lent at its end `e`, `Learnt` is what a caller learns from the function's `ensures`, and
