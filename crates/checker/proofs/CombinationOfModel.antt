@@ -30,7 +30,7 @@ use Rattle.checker_rows.specs.Due.{due-of, miscounted-by}
 use Rattle.checker_rows.proofs.ColumnBits.{numbered-length}
 use Rattle.checker_rows.proofs.DueOfModel.{due-link}
 use Rattle.checker_rows.proofs.MetOfModel.{rowed, miscounts-link, known-at, held}
-use Rattle.checker_rows.specs.MetArrays.{Meets}
+use Rattle.checker_rows.proofs.MetPlan.{MetPlan}
 use Rattle.checker_rows.proofs.MetBounds.{readable}
 use Rattle.checker_rules.proofs.SlotBounds.{slotted}
 use Rattle.checker_rules.proofs.RulesOfModel.{uses-unknown-link, off-slot-link, overlap-link}
@@ -84,10 +84,19 @@ module _ (b : PlanIndex) (words : List ℕ) (t : Tabled b words) where
     once-link : missing ≡ not-once p es C
     once-link = miscounts-link p (t .passes) words (t .formed) (t .small) b (t .indexed) c few
 
-    meets : missing ≡ false → Meets p es C (A .comes) (A .place) (A .known)
+    abbrev meets : missing ≡ false → MetPlan
     meets e =
         let o : not-once p es C ≡ false = sym once-link ∙ e in
         record {
+          plan = p;
+          sound = g;
+          index = b;
+          indexed = t .indexed;
+          entries = es;
+          combination = C;
+          comes = A .comes;
+          place = A .place;
+          bits = A .known;
           formed = t .formed;
           held = held p (t .passes) words (t .formed) (t .small) b (t .indexed) c few o;
           columns = known-at p (t .passes) words (t .formed) (t .small) b (t .indexed) c few o;
@@ -101,13 +110,7 @@ module _ (b : PlanIndex) (words : List ℕ) (t : Tabled b words) where
     pub tried : miscounted-by (met-rows words c (b .span) .count) (due-of b c) (b .rows) ≡ false → Tried b (met-rows words c (b .span))
     tried e =
         let m = meets e in
-        record {
-          plan = p;
-          indexed = t .indexed;
-          readable = readable p es C (A .comes) (A .place) (A .known) m g b (t .indexed);
-          slotted = slotted p es C (A .comes) (A .place) (A .known) m g b (t .indexed);
-          sized = sized p es C (A .comes) (A .place) (A .known) m g b (t .indexed);
-        }
+        record { plan = p; indexed = t .indexed; readable = readable m; slotted = slotted m; sized = sized m }
 
     -- the active processes
     active-at : (i : ℕ) → getD (active-from (due-of b c) (b .processes)) i 0 ≡ bit (active p C i)
@@ -136,11 +139,11 @@ module _ (b : PlanIndex) (words : List ℕ) (t : Tabled b words) where
     first-link e =
         let m = meets e in
         λ i.
-        first-of (uses-unknown-link p (t .passes) b (t .indexed) es C (A .comes) (A .place) (A .known) m i)
-        (too-early-link p (t .passes) b (t .indexed) es C (A .comes) (A .place) (A .known) m (numbered-length p g c few) _ (active-from (due-of b c) (b .processes)) (t .indexed .holds c few) running i)
-        (off-slot-link p (t .passes) b (t .indexed) es C (A .comes) (A .place) (A .known) m i)
-        (overlap-link p (t .passes) b (t .indexed) es C (A .comes) (A .place) (A .known) m i)
-        (share-link p (t .passes) b (t .indexed) es C (A .comes) (A .place) (A .known) m i)
+        first-of (uses-unknown-link m i)
+        (too-early-link m (numbered-length p g c few) _ (active-from (due-of b c) (b .processes)) (t .indexed .holds c few) running i)
+        (off-slot-link m i)
+        (overlap-link m i)
+        (share-link m i)
 
     -- the first refusal of a combination
     pub found-first : found-by b words c .first

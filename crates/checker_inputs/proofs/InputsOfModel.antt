@@ -4,8 +4,8 @@
 use mathlib.Core.Path.{_≡_, refl, sym, ap, _∙_}
 use mathlib.Core.Logic.{_⊎_, inl, inr}
 use mathlib.Core.Bool.{Bool, true, false, not, _&&_, and-assoc}
-use mathlib.Core.List.{List, List·Memᴰ as In}
-use Prim.Native.Nat.{ℕ, suc, _+_, _-_, _<_, _≤_}
+use mathlib.Core.List.{List}
+use Prim.Native.Nat.{ℕ, suc, _-_, _<_, _≤_}
 use native.Mathlib.Omega.{arith}
 use lib.Dec.{eqb, ltb}
 use lib.ListN.{length, getD}
@@ -16,21 +16,15 @@ use Rattle.lists.proofs.Members.{any-same}
 use Rattle.model.specs.Plan.{Lines, When, always, on, edge, decider, into}
 use Rattle.model.specs.Activity.{Heard, is, meets, all-heard, may-run, active, carries}
 use Rattle.model.specs.Bus.{rows, sender}
-use Rattle.model.specs.Log.{Placed, Log, full-ticks, span, over, known, delivered}
-use Rattle.model.specs.Refusals.{nothing, plan-refusal}
-use Rattle.model.specs.Table.{Entry}
-use Rattle.model.specs.Checking.{met-log, missing, placed-early, too-early}
-use Rattle.laws.proofs.Good.{Good, good}
+use Rattle.model.specs.Log.{full-ticks, over, known, delivered}
+use Rattle.model.specs.Checking.{missing, placed-early, too-early}
 use Rattle.laws.proofs.Active.{heard-all, into-in}
 use Rattle.log_queries.specs.Reading.{bit, came-by, placed-by, edges-into}
 use Rattle.log_queries.specs.Holding.{met-in, Holds, Runs}
-use Rattle.log_queries.proofs.Held.{held-logged}
 use Rattle.log_queries.proofs.ReadyOfModel.{delivered-link}
-use Rattle.log_queries.proofs.Placing.{placed-at}
-use Rattle.plan_index.specs.declared.index.PlanIndex.{PlanIndex}
-use Rattle.plan_index.specs.Indexed.{Indexed}
-use Rattle.checker_rows.specs.MetArrays.{Meets, start-by}
+use Rattle.checker_rows.specs.MetArrays.{start-by}
 use Rattle.checker_rows.proofs.LogRows.{some-same, and-same, any-rows}
+use Rattle.checker_rows.proofs.MetPlan.{MetPlan, P#, T#, log, at, conditionrow-same, over-same}
 use Rattle.checker_rows.proofs.MetBounds.{log-row, start-tick}
 use Rattle.checker_inputs.specs.Inputs.{misses-by, sends-by, row-early-by, too-early-by}
 
@@ -43,36 +37,8 @@ active-runs p c run h i = ap (λ (n : ℕ). eqb n 0) (h i) ∙ at (getD (may-run
     at true = refl
     at false = refl
 
-module _ (p : Lines) (no : plan-refusal p ≡ nothing) (b : PlanIndex) (w : Indexed p b)
-    (es : List Entry) (c : List Bool) (comes place bits : List ℕ) (m : Meets p es c comes place bits) where
-  abbrev P# : ℕ
-  P# = length (p .processes)
-
-  abbrev T# : ℕ
-  T# = length (p .processes) + length (p .edges)
-
-  abbrev at : ℕ → Placed
-  at r = placed-at p comes place r
-
-  abbrev log : Log
-  log = met-log es c
-
-  g : Good p
-  g = good p no
-
-  conditionrow-same : b .conditionrow ≡ T#
-  conditionrow-same = w .first-condition-row ∙ (λ i. w .processes-count i + w .edges-count i)
-
-  -- what is over by a met row's tick
-  over-same : (t : ℕ) → over p (full-ticks p) log t ≡ came-by comes (suc t)
-  over-same t = held-logged p log comes place (m .held) .over-by t
-
-  -- the start of a met row
-  start-at : (r : ℕ) → placed-by comes r ≡ true → start-by comes (b .span) r ≡ suc (at r .tick)
-  start-at r e = start-tick p es c comes place bits m g b w r e
-
-  log-to : (x : Placed) → In x log → In x log × (0 ≤ x .row) × (x .row < rows p)
-  log-to x n = (n, omega arith, log-row p es c comes place bits m x n)
+module _ (m : MetPlan) where
+  open MetPlan m using (plan as p, index as b, indexed as w, entries as es, combination as c, comes, place)
 
   -- refusal 16, where the arrays hold the combination too: `unmet` which edges' `when` it leaves unmet, `run` which
   -- processes are active in it
@@ -91,51 +57,51 @@ module _ (p : Lines) (no : plan-refusal p ≡ nothing) (b : PlanIndex) (w : Inde
     met-same (on z k) f = sym (ap (λ (x : Heard). is x z) (heard-all c k (let l = f z k refl in omega arith)))
 
     misses-same : (u e : ℕ) → e < length (p .edges) →
-        misses-by P# (b .remote) (b .from) (b .knownby) unmet comes run u e ≡ missing p c (came-by comes u) e
+        misses-by (P# m) (b .remote) (b .from) (b .knownby) unmet comes run u e ≡ missing p c (came-by comes u) e
     unfolding misses-by missing carries
     misses-same u e l =
         (λ i.
         (ap (λ (k : ℕ). not (eqb (getD run k 0) 0)) (h .senders e) ∙ active-same (edge p e .from)) i
-        && ((h .met e ∙ met-same (edge p e .when) (λ z k q. g .decided e l z k q .0)) i
-        && not (delivered-link p g c (b .from) (b .knownby) unmet (b .remote) (b .asany) (b .intofirst) (b .into) comes u h e i)))
+        && ((h .met e ∙ met-same (edge p e .when) (λ z k q. m .sound .decided e l z k q .0)) i
+        && not (delivered-link p (m .sound) c (b .from) (b .knownby) unmet (b .remote) (b .asany) (b .intofirst) (b .into) comes u h e i)))
         ∙ sym (and-assoc (active p c (edge p e .from)) (meets (all-heard c) (edge p e .when)) (not (delivered p (known p c (came-by comes u)) (came-by comes u) e)))
 
-    sends-same : (r : ℕ) → P# ≤ r → r < rows p → sends-by (b .from) (b .decider) P# T# r ≡ sender p r
+    sends-same : (r : ℕ) → P# m ≤ r → r < rows p → sends-by (b .from) (b .decider) (P# m) (T# m) r ≡ sender p r
     unfolding sends-by sender
     sends-same r l u =
-        by (two (ltb r T#))
-        ∙ ap (λ (z : Bool). if z then r else if ltb r T# then edge p (r - P#) .from else decider p (r - T#)) (sym (le-ltb r P# l))
+        by (two (ltb r (T# m)))
+        ∙ ap (λ (z : Bool). if z then r else if ltb r (T# m) then edge p (r - P# m) .from else decider p (r - T# m)) (sym (le-ltb r (P# m) l))
       where
-        by : (ltb r T# ≡ true) ⊎ (ltb r T# ≡ false) →
-            (if ltb r T# then getD (b .from) (r - P#) 0 else getD (b .decider) (r - T#) 0) ≡ (if ltb r T# then edge p (r - P#) .from else decider p (r - T#))
-        by (inl e) = rw e (h .senders (r - P#))
-        by (inr e) = rw e (w .deciders (r - T#) (let k : T# ≤ r = ltb-false _ _ e in omega arith))
+        by : (ltb r (T# m) ≡ true) ⊎ (ltb r (T# m) ≡ false) →
+            (if ltb r (T# m) then getD (b .from) (r - P# m) 0 else getD (b .decider) (r - T# m) 0) ≡ (if ltb r (T# m) then edge p (r - P# m) .from else decider p (r - T# m))
+        by (inl e) = rw e (h .senders (r - P# m))
+        by (inr e) = rw e (w .deciders (r - T# m) (let k : T# m ≤ r = ltb-false _ _ e in omega arith))
 
     early-same : (r : ℕ) → 0 ≤ r → r < rows p →
-        row-early-by P# T# (b .remote) (b .from) (b .knownby) unmet (b .decider) (b .intofirst) (b .into) run comes (b .span) r ≡ (placed-by comes r && placed-early p c log (at r))
+        row-early-by (P# m) (T# m) (b .remote) (b .from) (b .knownby) unmet (b .decider) (b .intofirst) (b .into) run comes (b .span) r ≡ (placed-by comes r && placed-early p c (log m) (at m r))
     unfolding row-early-by placed-early
-    early-same r z u = and-same (placed-by comes r) _ _ (λ d. by (start-at r d) (two (ltb r P#)))
+    early-same r z u = and-same (placed-by comes r) _ _ (λ d. by (start-tick m r d) (two (ltb r (P# m))))
       where
-        by : start-by comes (b .span) r ≡ suc (at r .tick) → (ltb r P# ≡ true) ⊎ (ltb r P# ≡ false) →
-            (if ltb r P#
-            then any (misses-by P# (b .remote) (b .from) (b .knownby) unmet comes run (start-by comes (b .span) r)) (edges-into (b .intofirst) (b .into) r)
-            else not (came-by comes (start-by comes (b .span) r) (sends-by (b .from) (b .decider) P# T# r)))
-            ≡ (if ltb r P#
-            then any (missing p c (over p (full-ticks p) log (at r .tick))) (into p r)
-            else not (over p (full-ticks p) log (at r .tick) (sender p r)))
+        by : start-by comes (b .span) r ≡ suc (at m r .tick) → (ltb r (P# m) ≡ true) ⊎ (ltb r (P# m) ≡ false) →
+            (if ltb r (P# m)
+            then any (misses-by (P# m) (b .remote) (b .from) (b .knownby) unmet comes run (start-by comes (b .span) r)) (edges-into (b .intofirst) (b .into) r)
+            else not (came-by comes (start-by comes (b .span) r) (sends-by (b .from) (b .decider) (P# m) (T# m) r)))
+            ≡ (if ltb r (P# m)
+            then any (missing p c (over p (full-ticks p) (log m) (at m r .tick))) (into p r)
+            else not (over p (full-ticks p) (log m) (at m r .tick) (sender p r)))
         by s (inl e) =
             rw e
-            ((λ i. any (misses-by P# (b .remote) (b .from) (b .knownby) unmet comes run (s i)) (h .leading r (ltb-true _ _ e) i))
-            ∙ any-same _ _ (into p r) (λ k n. misses-same (suc (at r .tick)) k (into-in p r n .0))
-            ∙ (λ i. any (missing p c (sym (over-same (at r .tick)) i)) (into p r)))
+            ((λ i. any (misses-by (P# m) (b .remote) (b .from) (b .knownby) unmet comes run (s i)) (h .leading r (ltb-true _ _ e) i))
+            ∙ any-same _ _ (into p r) (λ k n. misses-same (suc (at m r .tick)) k (into-in p r n .0))
+            ∙ (λ i. any (missing p c (sym (over-same m (at m r .tick)) i)) (into p r)))
         by s (inr e) =
             rw e
             ((λ i. not (came-by comes (s i) (sends-same r (ltb-false _ _ e) u i)))
-            ∙ (λ i. not (sym (over-same (at r .tick)) i (sender p r))))
+            ∙ (λ i. not (sym (over-same m (at m r .tick)) i (sender p r))))
 
     pub too-early-link : too-early-by (b .processes) (b .conditionrow) (b .remote) (b .from) (b .knownby) unmet (b .decider) (b .intofirst) (b .into) run comes (b .span) (b .rows) ≡ too-early p es c
     unfolding too-early-by too-early
     too-early-link =
-        (λ i. too-early-by (w .processes-count i) (conditionrow-same i) (b .remote) (b .from) (b .knownby) unmet (b .decider) (b .intofirst) (b .into) run comes (b .span) (w .row-count i))
+        (λ i. too-early-by (w .processes-count i) (conditionrow-same m i) (b .remote) (b .from) (b .knownby) unmet (b .decider) (b .intofirst) (b .into) run comes (b .span) (w .row-count i))
         ∙ some-same _ _ 0 (rows p) early-same
-        ∙ any-rows p log comes place (m .held) log 0 (rows p) log-to (λ x n l u. n) (placed-early p c log)
+        ∙ any-rows p (log m) comes place (m .held) (log m) 0 (rows p) (λ x n. (n, omega arith, log-row m x n)) (λ x n l u. n) (placed-early p c (log m))

@@ -1,22 +1,11 @@
--- Arrays by row that hold the entries of a table that a combination meets.
+-- What is read off arrays by row that hold the entries of a table that a combination meets.
 -- Assumes nothing.
 use mathlib.Core.Path.{_≡_}
-use mathlib.Core.Bool.{Bool, false}
-use mathlib.Core.List.{List, List·Memᴰ as In}
+use mathlib.Core.Bool.{Bool}
+use mathlib.Core.List.{List}
 use Prim.Native.Nat.{ℕ, _-_, _<_, _≤_}
 use lib.ListN.{getD}
 use Rattle.lists.specs.Lists.{any, upfrom}
-use Rattle.model.specs.Plan.{Lines}
-use Rattle.model.specs.Table.{Entry}
-use Rattle.model.specs.Checking.{ill-formed, met-entries, met-log}
-use Rattle.log_queries.specs.Holding.{Held}
-
--- Refusal 13 finds nothing, and the arrays hold the met entries: their ticks and places (`comes`, `place`), each row
--- once, and the known bits of their columns (`known`).
-pub record Meets (p : Lines) (es : List Entry) (c : List Bool) (comes place known : List ℕ) : Type 0 where
-  pub formed : any (ill-formed p) es ≡ false
-  pub held : Held p (met-log es c) comes place
-  pub columns : (e : Entry) → In e (met-entries es c) → getD known (e .row) 0 ≡ e .known
 
 -- a test holds at some number from a up to before n
 abbrev pub some : (ℕ → Bool) → ℕ → ℕ → Bool

@@ -1,18 +1,60 @@
 -- `checker_rules::ill_formed` meets its contract: each test that holds settles the answer.
 -- Assumes nothing.
-use mathlib.Core.Path.{sym, ap, _∙_, subst}
+use mathlib.Core.Path.{_≡_, sym, ap, _∙_}
 use mathlib.Core.Bool.{Bool, not, _&&_}
-use Prim.Native.Nat.{ℕ, _≤_, _<_}
 use native.Mathlib.Omega.{arith}
 use lib.Dec.{ltb}
 use borrow.Author.Tests.{le-leb, lt-leb, lt-ltb, le-ltb, eq-eqb, ne-eqb}
 use Rattle.model.specs.Table.{Entry}
 use Rattle.checker_rows.specs.MetRows.{entry-from}
 use Rattle.checker_rules.specs.EntryForm.{local-row, ill-formed-by}
-use Rattle.checker_rules.proofs.EntryCases.{or-here, or-skip}
+use Rattle.checker_rules.proofs.EntryCases.{Passed, none-yet, pass, settles}
 use borrow.Author.Needs.{needs}
 use Rattle.checker_rules.proofs.entry_form.ill_formed.Statement.{statement}
 use Rattle.checker_rules.proofs.entry_form.ill_formed.Tie as tie
+
+-- the call's start, and the entry
+abbrev start : tie.After-wide → tie.Start
+start w = w .before .before .before
+
+abbrev entry : tie.After-wide → Entry
+entry w = entry-from (start w .args .table .now) (start w .args .at)
+
+-- what `is_local` answers of the entry's row
+local-told : (c : tie.After-is-local) →
+    let w = c .before .before in
+    let a = start w .args in
+    local-row (a .processes) (a .conditionrow) (a .remote .now) (entry w .row) ≡ c .is-local .result
+local-told c =
+    let a = start (c .before .before) .args in
+    ap (local-row (a .processes) (a .conditionrow) (a .remote .now)) (sym (c .before .before .wide .ensures)) ∙ sym (c .is-local .ensures)
+
+-- the tests that are passed by: those before, and one more
+abbrev past-1 : tie.Else1 → Passed tie.After-wide
+past-1 c =
+    let w = c .before in
+    pass (none-yet w) (lt-leb (start w .args .rows) (entry w .row) (omega (arith, w .wide .ensures, c .if1 .left)))
+
+abbrev past-2 : tie.Else2 → Passed tie.After-wide
+past-2 c = pass (past-1 (c .before .before)) (local-told (c .before) ∙ c .if2 .left)
+
+abbrev past-3 : tie.Else3 → Passed tie.After-wide
+past-3 c =
+    let q = past-2 (c .before .before) in
+    pass q (lt-leb (start (q .from) .args .combinations) (entry (q .from) .known) (omega (arith, c .if3 .left)))
+
+abbrev past-4 : tie.Else4 → Passed tie.After-wide
+past-4 c = pass (past-3 (c .before .before)) (ap not (eq-eqb _ _ (c .if4 .left)))
+
+abbrev past-5 : tie.Else5 → Passed tie.After-wide
+past-5 c =
+    let q = past-4 (c .before .before) in
+    pass q (le-ltb 999999999 (entry (q .from) .tick) (omega (arith, c .if5 .left)))
+
+abbrev past-6 : tie.Else6 → Passed tie.After-wide
+past-6 c =
+    let q = past-5 (c .before .before) in
+    pass q (le-ltb 63 (entry (q .from) .place) (omega (arith, c .if6 .left)))
 
 mul-wide : tie.Need-mul-wide
 mul-wide c = search needs
@@ -27,29 +69,14 @@ returns : tie.Need-returns
 unfolding ill-formed-by
 returns c =
     let w = c .before in
-    let k2 = w .before in
-    let k1 = k2 .before in
-    let start = k1 .before in
-    let a = start .args in
-    let e : Entry = entry-from (a .table .now) (a .at) in
-    or-here _ (le-leb (a .rows) (e .row) (subst (λ (r : ℕ). a .rows ≤ r) (w .wide .ensures) (c .if1 .taken)))
+    settles (none-yet w) _ (le-leb (start w .args .rows) (entry w .row) (omega (arith, w .wide .ensures, c .if1 .taken)))
 
 is-local-requires : tie.Need-is-local-requires
 is-local-requires c κs = search needs
 
 returns-2 : tie.Need-returns-2
 unfolding ill-formed-by
-returns-2 c =
-    let loc = c .before in
-    let e1 = loc .before in
-    let w = e1 .before in
-    let k2 = w .before in
-    let k1 = k2 .before in
-    let start = k1 .before in
-    let a = start .args in
-    let e : Entry = entry-from (a .table .now) (a .at) in
-    or-skip (lt-leb (a .rows) (e .row) (subst (λ (r : ℕ). r < a .rows) (w .wide .ensures) (e1 .if1 .left)))
-    (or-here _ (ap (local-row (a .processes) (a .conditionrow) (a .remote .now)) (sym (w .wide .ensures)) ∙ sym (loc .is-local .ensures) ∙ c .if2 .taken))
+returns-2 c = settles (past-1 (c .before .before)) _ (local-told (c .before) ∙ c .if2 .taken)
 
 add-known : tie.Need-add-known
 add-known c = search needs
@@ -63,19 +90,8 @@ shared-slice-read-known c = search needs
 returns-3 : tie.Need-returns-3
 unfolding ill-formed-by
 returns-3 c =
-    let k3 = c .before in
-    let e2 = k3 .before in
-    let loc = e2 .before in
-    let e1 = loc .before in
-    let w = e1 .before in
-    let k2 = w .before in
-    let k1 = k2 .before in
-    let start = k1 .before in
-    let a = start .args in
-    let e : Entry = entry-from (a .table .now) (a .at) in
-    or-skip (lt-leb (a .rows) (e .row) (subst (λ (r : ℕ). r < a .rows) (w .wide .ensures) (e1 .if1 .left)))
-    (or-skip (ap (local-row (a .processes) (a .conditionrow) (a .remote .now)) (sym (w .wide .ensures)) ∙ sym (loc .is-local .ensures) ∙ e2 .if2 .left)
-    (or-here _ (le-leb (a .combinations) (e .known) (omega (arith, c .if3 .taken)))))
+    let q = past-2 (c .before .before) in
+    settles q _ (le-leb (start (q .from) .args .combinations) (entry (q .from) .known) (omega (arith, c .if3 .taken)))
 
 add-values : tie.Need-add-values
 add-values c = search needs
@@ -88,23 +104,7 @@ shared-slice-read-values c = search needs
 
 returns-4 : tie.Need-returns-4
 unfolding ill-formed-by
-returns-4 c =
-    let k4 = c .before in
-    let e3 = k4 .before in
-    let k3 = e3 .before in
-    let e2 = k3 .before in
-    let loc = e2 .before in
-    let e1 = loc .before in
-    let w = e1 .before in
-    let k2 = w .before in
-    let k1 = k2 .before in
-    let start = k1 .before in
-    let a = start .args in
-    let e : Entry = entry-from (a .table .now) (a .at) in
-    or-skip (lt-leb (a .rows) (e .row) (subst (λ (r : ℕ). r < a .rows) (w .wide .ensures) (e1 .if1 .left)))
-    (or-skip (ap (local-row (a .processes) (a .conditionrow) (a .remote .now)) (sym (w .wide .ensures)) ∙ sym (loc .is-local .ensures) ∙ e2 .if2 .left)
-    (or-skip (lt-leb (a .combinations) (e .known) (e3 .if3 .left))
-    (or-here _ (ap not (ne-eqb _ _ (c .if4 .taken))))))
+returns-4 c = settles (past-3 (c .before .before)) _ (ap not (ne-eqb _ _ (c .if4 .taken)))
 
 add-if5 : tie.Need-add-if5
 add-if5 c = search needs
@@ -118,25 +118,8 @@ shared-slice-read-if5 c = search needs
 returns-5 : tie.Need-returns-5
 unfolding ill-formed-by
 returns-5 c =
-    let k5 = c .before in
-    let e4 = k5 .before in
-    let k4 = e4 .before in
-    let e3 = k4 .before in
-    let k3 = e3 .before in
-    let e2 = k3 .before in
-    let loc = e2 .before in
-    let e1 = loc .before in
-    let w = e1 .before in
-    let k2 = w .before in
-    let k1 = k2 .before in
-    let start = k1 .before in
-    let a = start .args in
-    let e : Entry = entry-from (a .table .now) (a .at) in
-    or-skip (lt-leb (a .rows) (e .row) (subst (λ (r : ℕ). r < a .rows) (w .wide .ensures) (e1 .if1 .left)))
-    (or-skip (ap (local-row (a .processes) (a .conditionrow) (a .remote .now)) (sym (w .wide .ensures)) ∙ sym (loc .is-local .ensures) ∙ e2 .if2 .left)
-    (or-skip (lt-leb (a .combinations) (e .known) (e3 .if3 .left))
-    (or-skip (ap not (eq-eqb _ _ (e4 .if4 .left)))
-    (or-here _ (lt-ltb 999999999 (e .tick) (c .if5 .taken))))))
+    let q = past-4 (c .before .before) in
+    settles q _ (lt-ltb 999999999 (entry (q .from) .tick) (omega (arith, c .if5 .taken)))
 
 add-place : tie.Need-add-place
 add-place c = search needs
@@ -150,84 +133,22 @@ shared-slice-read-place c = search needs
 returns-6 : tie.Need-returns-6
 unfolding ill-formed-by
 returns-6 c =
-    let k6 = c .before in
-    let e5 = k6 .before in
-    let k5 = e5 .before in
-    let e4 = k5 .before in
-    let k4 = e4 .before in
-    let e3 = k4 .before in
-    let k3 = e3 .before in
-    let e2 = k3 .before in
-    let loc = e2 .before in
-    let e1 = loc .before in
-    let w = e1 .before in
-    let k2 = w .before in
-    let k1 = k2 .before in
-    let start = k1 .before in
-    let a = start .args in
-    let e : Entry = entry-from (a .table .now) (a .at) in
-    or-skip (lt-leb (a .rows) (e .row) (subst (λ (r : ℕ). r < a .rows) (w .wide .ensures) (e1 .if1 .left)))
-    (or-skip (ap (local-row (a .processes) (a .conditionrow) (a .remote .now)) (sym (w .wide .ensures)) ∙ sym (loc .is-local .ensures) ∙ e2 .if2 .left)
-    (or-skip (lt-leb (a .combinations) (e .known) (e3 .if3 .left))
-    (or-skip (ap not (eq-eqb _ _ (e4 .if4 .left)))
-    (or-skip (le-ltb 999999999 (e .tick) (e5 .if5 .left))
-    (or-here _ (lt-ltb 63 (e .place) (c .if6 .taken)))))))
+    let q = past-5 (c .before .before) in
+    settles q _ (lt-ltb 63 (entry (q .from) .place) (omega (arith, c .if6 .taken)))
 
 returns-7 : tie.Need-returns-7
 unfolding ill-formed-by
 returns-7 c =
-    let e6 = c .before in
-    let k6 = e6 .before in
-    let e5 = k6 .before in
-    let k5 = e5 .before in
-    let e4 = k5 .before in
-    let k4 = e4 .before in
-    let e3 = k4 .before in
-    let k3 = e3 .before in
-    let e2 = k3 .before in
-    let loc = e2 .before in
-    let e1 = loc .before in
-    let w = e1 .before in
-    let k2 = w .before in
-    let k1 = k2 .before in
-    let start = k1 .before in
-    let a = start .args in
-    let e : Entry = entry-from (a .table .now) (a .at) in
-    or-skip (lt-leb (a .rows) (e .row) (subst (λ (r : ℕ). r < a .rows) (w .wide .ensures) (e1 .if1 .left)))
-    (or-skip (ap (local-row (a .processes) (a .conditionrow) (a .remote .now)) (sym (w .wide .ensures)) ∙ sym (loc .is-local .ensures) ∙ e2 .if2 .left)
-    (or-skip (lt-leb (a .combinations) (e .known) (e3 .if3 .left))
-    (or-skip (ap not (eq-eqb _ _ (e4 .if4 .left)))
-    (or-skip (le-ltb 999999999 (e .tick) (e5 .if5 .left))
-    (or-skip (le-ltb 63 (e .place) (e6 .if6 .left))
-    (sym (ap (λ (b : Bool). b && ltb 0 (e .place)) (lt-ltb (e .row) (a .processes) (subst (λ (r : ℕ). r < a .processes) (w .wide .ensures) (c .if7 .taken))))))))))
+    let q = past-6 (c .before) in
+    let l = lt-ltb (entry (q .from) .row) (start (q .from) .args .processes) (omega (arith, q .from .wide .ensures, c .if7 .taken)) in
+    sym (ap (λ (b : Bool). b && ltb 0 (entry (q .from) .place)) l) ∙ q .behind _
 
 returns-8 : tie.Need-returns-8
 unfolding ill-formed-by
 returns-8 c =
-    let e6 = c .before in
-    let k6 = e6 .before in
-    let e5 = k6 .before in
-    let k5 = e5 .before in
-    let e4 = k5 .before in
-    let k4 = e4 .before in
-    let e3 = k4 .before in
-    let k3 = e3 .before in
-    let e2 = k3 .before in
-    let loc = e2 .before in
-    let e1 = loc .before in
-    let w = e1 .before in
-    let k2 = w .before in
-    let k1 = k2 .before in
-    let start = k1 .before in
-    let a = start .args in
-    let e : Entry = entry-from (a .table .now) (a .at) in
-    or-skip (lt-leb (a .rows) (e .row) (subst (λ (r : ℕ). r < a .rows) (w .wide .ensures) (e1 .if1 .left)))
-    (or-skip (ap (local-row (a .processes) (a .conditionrow) (a .remote .now)) (sym (w .wide .ensures)) ∙ sym (loc .is-local .ensures) ∙ e2 .if2 .left)
-    (or-skip (lt-leb (a .combinations) (e .known) (e3 .if3 .left))
-    (or-skip (ap not (eq-eqb _ _ (e4 .if4 .left)))
-    (or-skip (le-ltb 999999999 (e .tick) (e5 .if5 .left))
-    (or-skip (le-ltb 63 (e .place) (e6 .if6 .left))
-    (sym (ap (λ (b : Bool). b && ltb 0 (e .place)) (le-ltb (e .row) (a .processes) (subst (λ (r : ℕ). a .processes ≤ r) (w .wide .ensures) (c .if7 .left))))))))))
+    let q = past-6 (c .before) in
+    let l = le-ltb (entry (q .from) .row) (start (q .from) .args .processes) (omega (arith, q .from .wide .ensures, c .if7 .left)) in
+    sym (ap (λ (b : Bool). b && ltb 0 (entry (q .from) .place)) l) ∙ q .behind _
 
 pub ill-formed-spec : {M : Type 1} → statement M
 ill-formed-spec =
