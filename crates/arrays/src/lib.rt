@@ -1,9 +1,13 @@
-// Numbers and arrays of numbers, for every family: the greater and the lesser of two, a difference that stops at 0, and
-// arrays of zeros by what they are for. Nothing here speaks of planning.
+// Numbers and arrays of numbers, for every family: the greater and the lesser of two, a difference that stops at 0,
+// arrays of zeros by what they are for, and numbers copied from one array into another. Nothing here speaks of
+// planning.
 // Document 01: "plan arrays of 128 edges made as [v; 128], the plan struct starting empty"
+mod copying;
 mod numbers;
 mod zeros;
 
+pub use copying::copy_at;
+pub use copying::copy_part;
 pub use numbers::difference;
 pub use numbers::difference_usize;
 pub use numbers::greater;

@@ -1,6 +1,7 @@
--- An array filled one by one: what one store adds, its length, what stands where, and what holds at every place.
+-- An array filled one by one: what one store adds, its length, what stands where, what holds at every place, and a part
+-- of a list stored in an array of zeros.
 -- Assumes nothing.
-use mathlib.Core.Path.{_≡_, refl, sym, subst, _∙_}
+use mathlib.Core.Path.{_≡_, refl, sym, ap, subst, _∙_}
 use mathlib.Core.Logic.{_⊎_, inl, inr}
 use mathlib.Core.Bool.{true, false}
 use mathlib.Core.List.{List}
@@ -9,11 +10,12 @@ use native.Mathlib.Nat.{not-suc-le-zero}
 use native.Mathlib.Numerals.{add-one}
 use native.Mathlib.Omega.{arith}
 use lib.Dec.{ltb}
-use lib.ListN.{length, getD, set, replicate, length-set, length-replicate}
-use lib.Seq.{getD-set-same, getD-set-other, set-getD}
+use lib.ListN.{length, getD, set, replicate, take, length-set, length-replicate}
+use lib.Seq.{sets, slice, length-sets, length-slice, ext-getD, getD-take, getD-drop, getD-set-same, getD-set-other, set-getD}
 use borrow.Author.Tests.{ltb-true, ltb-false}
 use Rattle.lists.specs.Lists.{fill}
 use Rattle.lists.proofs.Tests.{two, below-suc}
+use Rattle.lists.proofs.Stores.{sets-at, sets-after}
 
 pub fill-next : (size : ℕ) (f : ℕ → ℕ) (n : ℕ) {v : ℕ} {xs : List ℕ} → xs ≡ fill size f n → v ≡ f n → set xs n v ≡ fill size f (n + 1)
 unfolding fill
@@ -67,3 +69,18 @@ fill-each P size f n u h z k = by (two (ltb k n))
 
 pub fill-all : (P : ℕ → Type 0) (size : ℕ) (f : ℕ → ℕ) (n : ℕ) → n ≤ size → ((k : ℕ) → k < n → P (f k)) → P 0 → (k : ℕ) → P (getD (fill size f n) k 0)
 fill-all P size f n u h z = fill-each (λ k. P) size f n u h (λ k l. z)
+
+-- n numbers from place a on, stored at the front of an array of zeros
+pub fill-part : (size : ℕ) (xs : List ℕ) (a n : ℕ) {zeros : List ℕ} → zeros ≡ replicate size 0 → n ≤ size → a + n ≤ length xs →
+    sets zeros 0 (slice a (a + n) xs) ≡ fill size (λ k. getD xs (a + k) 0) n
+fill-part size xs a n {zeros} z u h =
+    let f : ℕ → ℕ = λ k. getD xs (a + k) 0 in
+    let part : List ℕ = slice a (a + n) xs in
+    let long : length part ≡ n = omega (arith, length-slice a (a + n) xs h) in
+    let wide : length zeros ≡ size = ap length z ∙ length-replicate size 0 in
+    ext-getD 0 (sets zeros 0 part) (fill size f n) (length-sets zeros 0 part ∙ wide ∙ sym (fill-length size f n)) (λ k l.
+    fill-each (λ k x. getD (sets zeros 0 part) k 0 ≡ x) size f n u
+    (λ k l.
+    let q : k ≡ 0 + k = omega arith in
+    ap (λ (i : ℕ). getD (sets zeros 0 part) i 0) q ∙ sets-at zeros 0 part k (omega arith) (omega arith) ∙ getD-drop a (take (a + n) xs) k 0 ∙ getD-take (a + n) xs (a + k) 0 (omega arith))
+    (λ k l. sets-after zeros 0 k part (omega arith) ∙ ap (λ (l : List ℕ). getD l k 0) z ∙ zeros-at size k) k)

@@ -1,5 +1,5 @@
--- What is left of a list from a place on, a part in the middle of lists joined, a part after a store before, behind or
--- at its end, numbers in two runs, and how many a test keeps.
+-- What is left of a list from a place on, a part by its length, a part in the middle of lists joined, a part after a
+-- store before, behind or at its end, numbers in two runs, and how many a test keeps.
 -- Assumes nothing.
 use mathlib.Core.Path.{_≡_, sym, ap, _∙_}
 use mathlib.Core.Logic.{_⊎_, inl, inr}
@@ -10,13 +10,16 @@ use native.Mathlib.Numerals.{add-one}
 use native.Mathlib.Omega.{arith}
 use lib.Dec.{eqb, ltb}
 use lib.ListN.{length, getD, set, take, drop}
-use lib.Seq.{slice, drop-cons, take-append-add, take-append-seam, drop-append-seam, drop-append-le, length-take-le, take-set-le, take-set-lt, drop-set-lt, take-suc-set}
+use lib.Seq.{slice, drop-cons, drop-at, take-add, take-append-add, take-append-seam, drop-append-seam, drop-append-le, length-take-le, take-set-le, take-set-lt, drop-set-lt, take-suc-set}
 use borrow.Author.Tests.{eqb-true, eqb-false, ltb-true, ltb-false, lt-ltb, le-ltb}
 use Rattle.lists.specs.Lists.{keep, upfrom}
 use Rattle.lists.proofs.Tests.{two}
 
 pub drop-one : (xs : List ℕ) (i : ℕ) → i < length xs → drop i xs ≡ getD xs i 0 ∷ drop (i + 1) xs
 drop-one xs i l = drop-cons xs i 0 l ∙ ap (λ (n : ℕ). getD xs i 0 ∷ drop n xs) (sym (add-one i))
+
+pub slice-taken : (xs : List ℕ) (a n : ℕ) → a ≤ length xs → take n (drop a xs) ≡ slice a (a + n) xs
+slice-taken xs a n l = sym (ap (drop a) (take-add a n xs) ∙ drop-at (take a xs) (take n (drop a xs)) a (length-take-le a xs l))
 
 pub middle : (a b c : List ℕ) → slice (length a) (length a + length b) (a ++ (b ++ c)) ≡ b
 middle a b c = ap (drop (length a)) (take-append-add a (b ++ c) (length b)) ∙ drop-append-seam a (take (length b) (b ++ c)) ∙ take-append-seam b c

@@ -2,6 +2,7 @@
 // whose node has a ready item. specs/Events.antt says what an event does and when the next one is, specs/Kept.antt what
 // is kept from event to event so that nothing is worked out twice.
 // Document 01: "For one combination, tick by tick: arrivals first, then starts, then slots that begin."
+use arrays::copy_at;
 use limits::CONDITIONS;
 use limits::EDGES;
 use limits::NEVER;
@@ -36,18 +37,6 @@ ghost use Rattle.planner_event.specs.Events.{moment, notes-below, note-b
 ghost use Rattle.planner_event.specs.Kept.{Kept, Queued};
 ghost use Rattle.planner_event.specs.Ending.{Ending};
 
-// Stores the counts of the nodes, from place `at` on.
-fn put_counts(passed: &[u32; NODES], at: usize, noted: &mut [u32; NOTED])
-    requires { ⌜ (at ≤ 40) × (length (now passed) ≡ NODES) ⌝ }
-    ensures { λ _. ⌜ now (noted .exit) ≡ sets (now (noted .entry)) at (now (passed .entry)) ⌝ }
-{
-    let mut n: usize = 0;
-    while n < NODES {
-        noted[at + n] = passed[n];
-        n += 1;
-    }
-}
-
 // Notes the counts for condition k, if its value becomes known at clock u.
 fn note_one<'a>(
     comes: &'a [u32; ROWS],
@@ -57,12 +46,12 @@ fn note_one<'a>(
     passed: &'a [u32; NODES],
     noted: &mut [u32; NOTED],
 )
-    requires { ⌜ (conditionrow ≤ CONDITIONROW) × (k < CONDITIONS) × (length (now passed) ≡ NODES) ⌝ }
+    requires { ⌜ (conditionrow ≤ CONDITIONROW) × (k < CONDITIONS) ⌝ }
     ensures { λ _. ⌜ now (noted .exit) ≡ (if eqb (getD (now (comes .entry)) (conditionrow + k) 0) u then sets
         (now (noted .entry)) (k * 8) (now (passed .entry)) else now (noted .entry)) ⌝ }
 {
     if comes[conditionrow + k] == u {
-        put_counts(passed, k * NODES, noted);
+        copy_at(passed, noted, k * NODES);
     }
 }
 
@@ -75,7 +64,7 @@ fn note_all<'a>(
     passed: &'a [u32; NODES],
     noted: &mut [u32; NOTED],
 )
-    requires { ⌜ (conditionrow ≤ CONDITIONROW) × (conditions ≤ CONDITIONS) × (length (now passed) ≡ NODES) ⌝ }
+    requires { ⌜ (conditionrow ≤ CONDITIONROW) × (conditions ≤ CONDITIONS) ⌝ }
     ensures { λ _. ⌜ now (noted .exit) ≡ notes-below (now (comes .entry)) u conditionrow (now (passed .entry))
         conditions (now (noted .entry)) ⌝ }
 {
@@ -96,7 +85,7 @@ fn note<'a>(
     passed: &'a [u32; NODES],
     noted: &mut [u32; NOTED],
 )
-    requires { ⌜ (conditionrow ≤ CONDITIONROW) × (conditions ≤ CONDITIONS) × (length (now passed) ≡ NODES) ⌝ }
+    requires { ⌜ (conditionrow ≤ CONDITIONROW) × (conditions ≤ CONDITIONS) ⌝ }
     ensures { λ _. ⌜ now (noted .exit) ≡ note-by broadcastend u (now (comes .entry)) conditionrow (now (passed .entry))
         conditions (now (noted .entry)) ⌝ }
 {

@@ -1,6 +1,5 @@
--- Blocks (a combination's part of an array), Sources (the combination that another takes over from), LastEnds (the last
--- ends one by one, and where a source's counts stand).
-pub mod Blocks
+-- Sources (the combination that another takes over from), LastEnds (the last ends one by one, and where a source's
+-- counts stand).
 pub mod Sources
 pub mod LastEnds
 -- Adding has that counts are added to totals node by node.

@@ -1,11 +1,11 @@
 // What a combination takes over from an earlier one that differs from it in one value: the rows placed before that
 // value arrives, and what was counted and noted by then. Combination c's row r stands at place c * ROWS + r.
 // specs/Prefix.antt says what the arrays hold.
+use arrays::copy_part;
 use arrays::difference;
 use arrays::greater;
 use arrays::no_counts;
 use arrays::no_rows;
-use arrays::none_noted;
 use arrays::wide;
 use limits::COMBINATIONNOTES;
 use limits::ENTRIES;
@@ -16,12 +16,12 @@ use limits::NOTES;
 use limits::PROCESSES;
 use limits::ROWS;
 ghost use mathlib.Core.Path.{_≡_};
-ghost use Prim.Native.Nat.{ℕ, _-_, _^_, _<_, _≤_};
+ghost use Prim.Native.Nat.{ℕ, _^_, _<_, _≤_};
 ghost use lib.ListN.{getD, length, replicate};
 ghost use Rattle.limits.specs.Limits.{NODES, PROCESSES, CONDITIONS, COMBINATIONS, CONDITIONROW, ROWS, ENTRIES, NOTED};
 ghost use Rattle.table_entries.specs.Logs.{block};
-ghost use Rattle.planner_prefix.specs.Prefix.{cut-one, cut, ends-below, arrival, later-by, Sourced, counts-from};
-ghost use Rattle.planner_prefix.specs.Prefix.{notes-from, counts-at, Prefix-shared};
+ghost use Rattle.planner_prefix.specs.Prefix.{cut-one, cut, ends-below, arrival, later-by, Sourced};
+ghost use Rattle.planner_prefix.specs.Prefix.{counts-at, Prefix-shared};
 
 // The combination that another takes over from, the condition in which the two differ, and the clock up to which they
 // are planned alike: that at which the condition's value arrives, or 2,000,000,000 where it never does.
@@ -116,20 +116,6 @@ fn cut_rows<'a>(all: &'a [u32; ENTRIES], d: usize, lasting: &'a [u32; ROWS], u: 
     rows
 }
 
-// Combination d's part of an array by combination and row.
-fn rows_of(all: &[u32; ENTRIES], d: usize) -> [u32; ROWS]
-    requires { ⌜ (d < COMBINATIONS) × (length (now all) ≡ ENTRIES) ⌝ }
-    ensures { λ r. ⌜ r ≡ block (now (all .entry)) d ⌝ }
-{
-    let mut rows = no_rows();
-    let mut r: usize = 0;
-    while r < ROWS {
-        rows[r] = all[d * ROWS + r];
-        r += 1;
-    }
-    rows
-}
-
 // By node, the last end of a process among some rows.
 fn last_ends<'a>(
     node: &'a [u32; PROCESSES],
@@ -147,34 +133,6 @@ fn last_ends<'a>(
         i += 1;
     }
     ends
-}
-
-// The counts of the first nodes that were noted from place `at` on.
-fn counts_of(notes: &[u32; NOTES], at: usize, slots: usize) -> [u32; NODES]
-    requires { ⌜ (at ≤ 3576) × (slots ≤ NODES) ⌝ }
-    ensures { λ r. ⌜ r ≡ counts-from (now (notes .entry)) at slots ⌝ }
-{
-    let mut counts = no_counts();
-    let mut n: usize = 0;
-    while n < slots {
-        counts[n] = notes[at + n];
-        n += 1;
-    }
-    counts
-}
-
-// What was noted for the conditions from place `at` on.
-fn notes_of(notes: &[u32; NOTES], at: usize) -> [u32; NOTED]
-    requires { ⌜ at ≤ 3536 ⌝ }
-    ensures { λ r. ⌜ r ≡ notes-from (now (notes .entry)) at ⌝ }
-{
-    let mut noted = none_noted();
-    let mut i: usize = 0;
-    while i < NOTED {
-        noted[i] = notes[at + i];
-        i += 1;
-    }
-    noted
 }
 
 // Where the counts of a source stand: those noted as its condition's value arrives, or the last ones where it never
@@ -224,9 +182,9 @@ pub fn shared_prefix<'a>(
     let from = s.from;
     let clock = s.clock;
     *rows = cut_rows(comes, from, span, clock);
-    *places = rows_of(place, from);
+    copy_part(place, from * ROWS, ROWS, places);
     *ends = last_ends(node, rows, processes);
-    *counts = counts_of(notes, place_of_counts(s), slots);
-    *noted = notes_of(notes, from * COMBINATIONNOTES);
+    copy_part(notes, place_of_counts(s), slots, counts);
+    copy_part(notes, from * COMBINATIONNOTES, NOTED, noted);
     clock
 }

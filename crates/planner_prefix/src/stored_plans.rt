@@ -1,5 +1,6 @@
 // The plan of a combination stored in its parts of the arrays, beside those of the others, and its counts added to
 // theirs: combination c's row r stands at place c * ROWS + r. specs/Stored.antt says the same of the arrays.
+use arrays::copy_at;
 use limits::COMBINATIONNOTES;
 use limits::COMBINATIONS;
 use limits::ENTRIES;
@@ -8,47 +9,10 @@ use limits::NOTED;
 use limits::NOTES;
 use limits::ROWS;
 ghost use mathlib.Core.Path.{_≡_};
-ghost use Prim.Native.Nat.{ℕ, _+_, _*_, _<_, _≤_};
+ghost use Prim.Native.Nat.{ℕ, _+_, _<_, _≤_};
 ghost use lib.ListN.{length, getD};
-ghost use lib.Seq.{sets};
 ghost use Rattle.limits.specs.Limits.{NODES, COMBINATIONS, ROWS, NOTED};
 ghost use Rattle.planner_prefix.specs.Stored.{added, Kept};
-
-// Stores what an array by row holds as combination c's part of an array by combination and row.
-fn keep_rows(rows: &[u32; ROWS], c: usize, all: &mut [u32; ENTRIES])
-    requires { ⌜ (c < COMBINATIONS) × (length (now rows) ≡ ROWS) ⌝ }
-    ensures { λ _. ⌜ now (all .exit) ≡ sets (now (all .entry)) (c * ROWS) (now (rows .entry)) ⌝ }
-{
-    let mut r: usize = 0;
-    while r < ROWS {
-        all[c * ROWS + r] = rows[r];
-        r += 1;
-    }
-}
-
-// Stores what was noted for the conditions from place `at` on.
-fn keep_noted(noted: &[u32; NOTED], at: usize, notes: &mut [u32; NOTES])
-    requires { ⌜ (at ≤ 3536) × (length (now noted) ≡ NOTED) ⌝ }
-    ensures { λ _. ⌜ now (notes .exit) ≡ sets (now (notes .entry)) at (now (noted .entry)) ⌝ }
-{
-    let mut i: usize = 0;
-    while i < NOTED {
-        notes[at + i] = noted[i];
-        i += 1;
-    }
-}
-
-// Stores counts from place `at` on.
-fn keep_counts(counts: &[u32; NODES], at: usize, notes: &mut [u32; NOTES])
-    requires { ⌜ (at ≤ 3576) × (length (now counts) ≡ NODES) ⌝ }
-    ensures { λ _. ⌜ now (notes .exit) ≡ sets (now (notes .entry)) at (now (counts .entry)) ⌝ }
-{
-    let mut n: usize = 0;
-    while n < NODES {
-        notes[at + n] = counts[n];
-        n += 1;
-    }
-}
 
 // Adds the counts of the first nodes to the totals.
 fn add_counts<'a>(counts: &'a [u32; NODES], slots: usize, totals: &mut [u32; NODES])
@@ -89,9 +53,9 @@ pub fn store<'a>(
         (now (passed .exit)) ⌝ }
 {
     since[c] = clock;
-    keep_rows(rows, c, comes);
-    keep_rows(places, c, place);
-    keep_noted(noted, c * COMBINATIONNOTES, notes);
-    keep_counts(counts, c * COMBINATIONNOTES + NOTED, notes);
+    copy_at(rows, comes, c * ROWS);
+    copy_at(places, place, c * ROWS);
+    copy_at(noted, notes, c * COMBINATIONNOTES);
+    copy_at(counts, notes, c * COMBINATIONNOTES + NOTED);
     add_counts(counts, slots, passed);
 }

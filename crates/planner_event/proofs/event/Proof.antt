@@ -51,8 +51,8 @@ of-ends c = c .before .before
 note-requires : tie.Need-note-requires
 unfolding index-of
 note-requires c κs =
-    let s = c .before .before .before in
-    (s .pre .0 .few-rows, s .pre .0 .few-conditions, s .pre .4)
+    let f = c .before .before .before .pre .0 in
+    (f .few-rows, f .few-conditions)
 
 heard-requires : tie.Need-heard-requires
 unfolding index-of

@@ -25,10 +25,7 @@ unfolding notes-below
 loop-holds c = (omega arith, refl)
 
 note-one-requires : tie.Need-note-one-requires Inv-loop μ-loop
-note-one-requires c κs =
-    let i = c .before in
-    let s = i .before .before .pre in
-    (s .0, omega (arith, s .1, i .loop-test .taken), s .2)
+note-one-requires c κs = search needs
 
 add-k : tie.Need-add-k Inv-loop μ-loop
 add-k c = search needs

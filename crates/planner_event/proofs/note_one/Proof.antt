@@ -15,14 +15,14 @@ mul-if1 c = search needs
 element-copy-out-if1 : tie.Need-element-copy-out-if1
 element-copy-out-if1 c = search needs
 
-mul-put-counts : tie.Need-mul-put-counts
-mul-put-counts c = search needs
+mul-copy-at : tie.Need-mul-copy-at
+mul-copy-at c = search needs
 
-put-counts-requires : tie.Need-put-counts-requires
-put-counts-requires c κs = search needs
+copy-at-requires : tie.Need-copy-at-requires
+copy-at-requires c κs = search needs
 
 returns : tie.Need-returns
-returns c = let q = eq-eqb _ _ (c .before .before .if1 .taken) in rw q (c .put-counts .ensures)
+returns c = let q = eq-eqb _ _ (c .before .before .before .if1 .taken) in rw q (c .copy-at .ensures)
 
 returns-2 : tie.Need-returns-2
 returns-2 c = rw (ne-eqb _ _ (c .if1 .left))
@@ -34,7 +34,7 @@ note-one-spec =
     add-if1
     mul-if1
     element-copy-out-if1
-    mul-put-counts
-    put-counts-requires
+    mul-copy-at
+    copy-at-requires
     returns
     returns-2)

@@ -14,38 +14,48 @@ mul-since c = search needs
 element-write-since : tie.Need-element-write-since
 element-write-since c = search needs
 
-keep-rows-requires : tie.Need-keep-rows-requires
-keep-rows-requires c κs = search needs
+mul-copy-at : tie.Need-mul-copy-at
+mul-copy-at c = search needs
 
-keep-rows-requires-2 : tie.Need-keep-rows-requires-2
-keep-rows-requires-2 c κs = search needs
+copy-at-requires : tie.Need-copy-at-requires
+copy-at-requires c κs = search needs
 
-mul-keep-noted : tie.Need-mul-keep-noted
-mul-keep-noted c = search needs
+mul-copy-at-2 : tie.Need-mul-copy-at-2
+mul-copy-at-2 c = search needs
 
-keep-noted-requires : tie.Need-keep-noted-requires
-keep-noted-requires c κs = search needs
+copy-at-requires-2 : tie.Need-copy-at-requires-2
+copy-at-requires-2 c κs = search needs
 
-mul-keep-counts : tie.Need-mul-keep-counts
-mul-keep-counts c = search needs
+mul-copy-at-3 : tie.Need-mul-copy-at-3
+mul-copy-at-3 c = search needs
 
-add-keep-counts : tie.Need-add-keep-counts
-add-keep-counts c = search needs
+copy-at-requires-3 : tie.Need-copy-at-requires-3
+copy-at-requires-3 c κs = search needs
 
-keep-counts-requires : tie.Need-keep-counts-requires
-keep-counts-requires c κs = search needs
+mul-copy-at-4 : tie.Need-mul-copy-at-4
+mul-copy-at-4 c = search needs
+
+add-copy-at : tie.Need-add-copy-at
+add-copy-at c = search needs
+
+copy-at-requires-4 : tie.Need-copy-at-requires-4
+copy-at-requires-4 c κs = search needs
 
 add-counts-requires : tie.Need-add-counts-requires
 add-counts-requires c κs = search needs
 
 returns : tie.Need-returns
 returns c =
-    let a = c .before .before .before .before .before .before .before .before .before .before .args in
+    let counts-put = c .before .before in
+    let noted-put = counts-put .before .before .before in
+    let places-put = noted-put .before .before .before in
+    let rows-put = places-put .before .before .before in
+    let a = rows-put .before .before .before .args in
     record {
-      rows-stored = c .before .before .before .before .before .before .before .before .keep-rows .ensures;
-      places-stored = c .before .before .before .before .before .before .keep-rows2 .ensures;
+      rows-stored = rows-put .copy-at .ensures;
+      places-stored = places-put .copy-at2 .ensures;
       since-stored = refl;
-      notes-stored = c .before .before .keep-counts .ensures ∙ ap (λ (xs : List ℕ). sets xs (a .c * 56 + 48) (a .counts .now)) (c .before .before .before .before .keep-noted .ensures);
+      notes-stored = counts-put .copy-at4 .ensures ∙ ap (λ (xs : List ℕ). sets xs (a .c * 56 + 48) (a .counts .now)) (noted-put .copy-at3 .ensures);
       counts-added = c .add-counts .ensures;
     }
 
@@ -55,12 +65,14 @@ store-spec =
     (tie.spec
     mul-since
     element-write-since
-    keep-rows-requires
-    keep-rows-requires-2
-    mul-keep-noted
-    keep-noted-requires
-    mul-keep-counts
-    add-keep-counts
-    keep-counts-requires
+    mul-copy-at
+    copy-at-requires
+    mul-copy-at-2
+    copy-at-requires-2
+    mul-copy-at-3
+    copy-at-requires-3
+    mul-copy-at-4
+    add-copy-at
+    copy-at-requires-4
     add-counts-requires
     returns)
