@@ -11,5 +11,5 @@ pub use readiness::message_ready;
 pub use readiness::ready;
 pub use row_ends::known;
 pub use row_ends::last_end;
-pub use runnable::heard;
 pub use runnable::may_run;
+pub use runnable::update_may_run;

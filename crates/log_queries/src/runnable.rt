@@ -119,7 +119,7 @@ pub fn may_run<'a>(
 }
 
 // Which processes may run: worked out again where a value becomes known at this clock.
-pub fn heard<'a>(
+pub fn update_may_run<'a>(
     broadcastend: u32,
     u: u32,
     processes: usize,

@@ -11,7 +11,7 @@ use limits::NOTED;
 use limits::PROCESSES;
 use limits::ROWS;
 use limits::STARTS;
-use log_queries::heard;
+use log_queries::update_may_run;
 use planner_dispatch::starts;
 use planner_packing::send_slot;
 use planner_slot_times::changed_nodes;
@@ -275,7 +275,7 @@ pub fn event<'a>(
         passed,
         noted,
     );
-    heard(
+    update_may_run(
         broadcastend,
         u,
         processes,

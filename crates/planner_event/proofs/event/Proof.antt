@@ -24,10 +24,10 @@ at c =
 abbrev of-note : tie.After-note → tie.Start
 of-note c = c .before .before .before .before
 
-abbrev of-heard : tie.After-heard → tie.After-note
-of-heard c = c .before .before .before
+abbrev of-update-may-run : tie.After-update-may-run → tie.After-note
+of-update-may-run c = c .before .before .before
 
-abbrev of-changes : tie.After-changes → tie.After-heard
+abbrev of-changes : tie.After-changes → tie.After-update-may-run
 of-changes c = c .before
 
 abbrev of-new : tie.After-new-nodes → tie.After-changes
@@ -54,9 +54,9 @@ note-requires c κs =
     let f = c .before .before .before .pre .0 in
     (f .few-rows, f .few-conditions)
 
-heard-requires : tie.Need-heard-requires
+update-may-run-requires : tie.Need-update-may-run-requires
 unfolding index-of
-heard-requires c κs =
+update-may-run-requires c κs =
     let f = of-note (c .before .before) .pre .0 in
     (f .few-processes, f .into-firsts, f .within-into)
 
@@ -70,7 +70,7 @@ update-next-sends-requires : tie.Need-update-next-sends-requires
 unfolding index-of
 update-next-sends-requires c κs =
     let y = c .before .before .before .before .before in
-    let s = of-note (of-heard (of-changes (of-new y))) in
+    let s = of-note (of-update-may-run (of-changes (of-new y))) in
     let a = s .args in
     let f = s .pre .0 in
     (f .few-slots, f .few-processes, f .few-rows, f .few-conditions, f .deciders, f .within-queue, f .queue-firsts, f .round-one, f .round-most, f .offset-most, s .pre .1 .from-one, s .pre .2, y .new-nodes .ensures .0, not-looked (planindex s) f (a .unmet .now) (at s) (a .lastarrival .now) (a .nextsend .now) (s .pre .1) _ (y .new-nodes .ensures .1), f .queue-rising, s .pre .6 .roomy)
@@ -80,14 +80,14 @@ unfolding index-of hears
 begin-requires c κs =
     let y = of-update (c .before .before .before) in
     let h = of-changes (of-new y) in
-    let s = of-note (of-heard h) in
+    let s = of-note (of-update-may-run h) in
     let a = s .args in
     let f = s .pre .0 in
-    (f .few-slots, f .few-processes, f .into-firsts, f .within-into, f .dispatch-firsts, f .dispatch-members, s .pre .2, f .ticks-small, y .new-nodes .ensures .0, nothing-new (planindex s) f (a .unmet .now) (at s) (a .lastarrival .now) (a .nextsend .now) (s .pre .1) _ (h .heard .ensures) _ (y .new-nodes .ensures .1))
+    (f .few-slots, f .few-processes, f .into-firsts, f .within-into, f .dispatch-firsts, f .dispatch-members, s .pre .2, f .ticks-small, y .new-nodes .ensures .0, nothing-new (planindex s) f (a .unmet .now) (at s) (a .lastarrival .now) (a .nextsend .now) (s .pre .1) _ (h .update-may-run .ensures) _ (y .new-nodes .ensures .1))
 
 sending-node-requires : tie.Need-sending-node-requires
 unfolding index-of
-sending-node-requires c κs = of-note (of-heard (of-changes (of-new (of-update (of-begin (c .before)))))) .pre .0 .few-slots
+sending-node-requires c κs = of-note (of-update-may-run (of-changes (of-new (of-update (of-begin (c .before)))))) .pre .0 .few-slots
 
 send-slot-requires : tie.Need-send-slot-requires
 unfolding index-of hears begins-with waiting messages
@@ -97,7 +97,7 @@ send-slot-requires c κs =
     let y = of-update d in
     let x = of-new y in
     let h = of-changes x in
-    let s = of-note (of-heard h) in
+    let s = of-note (of-update-may-run h) in
     let a = s .args in
     let f = s .pre .0 in
     let w = waits-now (planindex s) f (a .unmet .now) (at s) (a .lastarrival .now) (a .nextsend .now) (s .pre .1) _ (y .new-nodes .ensures .1) _ (s .pre .5) _ (x .changes .ensures) (a .wait .now) (a .waitend .now) (s .pre .6) _ _ (d .update-next-sends .ensures .1) _ (d .update-next-sends .ensures .0) (s .pre .2) _ (v .sending-node .ensures) in
@@ -105,7 +105,7 @@ send-slot-requires c κs =
 
 ends-after-requires : tie.Need-ends-after-requires
 unfolding index-of
-ends-after-requires c κs = of-note (of-heard (of-changes (of-new (of-update (of-begin (of-sending-node (of-send-slot (c .before)))))))) .pre .0 .few-slots
+ends-after-requires c κs = of-note (of-update-may-run (of-changes (of-new (of-update (of-begin (of-sending-node (of-send-slot (c .before)))))))) .pre .0 .few-slots
 
 sooner-requires : tie.Need-sooner-requires
 sooner-requires c κs = search needs
@@ -125,18 +125,18 @@ returns c =
     let y = of-update d in
     let x = of-new y in
     let h = of-changes x in
-    let w = of-heard h in
+    let w = of-update-may-run h in
     let s = of-note w in
     let a = s .args in
     let f = s .pre .0 in
-    event-whole (planindex s) f (a .unmet .now) (at s) (a .lastarrival .now) (a .nextsend .now) (s .pre .1) _ (y .new-nodes .ensures .1) _ (s .pre .5) _ (x .changes .ensures) (a .wait .now) (a .waitend .now) (s .pre .6) _ _ (d .update-next-sends .ensures .1) _ (d .update-next-sends .ensures .0) (s .pre .2) _ (v .sending-node .ensures) _ (h .heard .ensures) _ _ (g .begin .ensures .0) (g .begin .ensures .1 .0) _ _ _ _ _ (t .send-slot .ensures .0) _ _ _ _ (t .send-slot .ensures .1 .0) (t .send-slot .ensures .1 .1 .0) (t .send-slot .ensures .1 .1 .1) _ (g .begin .ensures .1 .1) _ _ _ (q .ends-after .ensures) (o .sooner .ensures) (c .next-event .ensures) _ (w .note .ensures)
+    event-whole (planindex s) f (a .unmet .now) (at s) (a .lastarrival .now) (a .nextsend .now) (s .pre .1) _ (y .new-nodes .ensures .1) _ (s .pre .5) _ (x .changes .ensures) (a .wait .now) (a .waitend .now) (s .pre .6) _ _ (d .update-next-sends .ensures .1) _ (d .update-next-sends .ensures .0) (s .pre .2) _ (v .sending-node .ensures) _ (h .update-may-run .ensures) _ _ (g .begin .ensures .0) (g .begin .ensures .1 .0) _ _ _ _ _ (t .send-slot .ensures .0) _ _ _ _ (t .send-slot .ensures .1 .0) (t .send-slot .ensures .1 .1 .0) (t .send-slot .ensures .1 .1 .1) _ (g .begin .ensures .1 .1) _ _ _ (q .ends-after .ensures) (o .sooner .ensures) (c .next-event .ensures) _ (w .note .ensures)
 
 pub event-spec : {M : Type 1} → statement M
 event-spec =
     tie.close
     (tie.spec
     note-requires
-    heard-requires
+    update-may-run-requires
     changes-requires
     new-nodes-requires
     update-next-sends-requires
