@@ -20,7 +20,7 @@ ghost use Rattle.checker.specs.FirstRefusal.{too-early-in, first-in, Tri
 // The processes that are active where these rows are due: 1, or 0.
 pub(crate) fn active_of(due: &[u32; ROWS], processes: usize) -> [u32; PROCESSES]
     requires { ⌜ processes ≤ PROCESSES ⌝ }
-    ensures { λ r. ⌜ r ≡ fill 64 (λ i. getD (now (due .entry)) i 0) processes ⌝ }
+    ensures { λ r. ⌜ r ≡ fill PROCESSES (λ i. getD (now (due .entry)) i 0) processes ⌝ }
 {
     let mut active = no_processes();
     let mut i: usize = 0;

@@ -8,7 +8,7 @@ use limits::ROWS;
 ghost use mathlib.Core.Path.{_≡_};
 ghost use Prim.Native.Nat.{_<_, _≤_};
 ghost use lib.ListN.{getD};
-ghost use Rattle.limits.specs.Limits.{ROWS};
+ghost use Rattle.limits.specs.Limits.{NODES, ROWS, BYTES};
 ghost use Rattle.checker_rows.specs.MetArrays.{Readable};
 ghost use Rattle.checker_frames.specs.SharedBytes.{passes-by, shares-by, share-by, Sized};
 
@@ -20,7 +20,8 @@ fn passes<'a>(
     place: &'a [u32; ROWS],
     r: usize,
 ) -> bool
-    requires { ⌜ (r < ROWS) × (getD (now sender) r 0 < 8) × (getD (now place) r 0 < 64) × (getD (now size) r 0 ≤ 64) ⌝ }
+    requires { ⌜ (r < ROWS) × (getD (now sender) r 0 < NODES) × (getD (now place) r 0 < BYTES) ×
+        (getD (now size) r 0 ≤ BYTES) ⌝ }
     ensures { λ b. ⌜ b ≡ passes-by (now (rooms .entry)) (now (sender .entry)) (now (size .entry)) (now (place .entry)) r
         ⌝ }
 {

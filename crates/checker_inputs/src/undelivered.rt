@@ -7,7 +7,7 @@ use log_queries::delivered;
 ghost use mathlib.Core.Path.{_≡_};
 ghost use Prim.Native.Nat.{_<_, _≤_};
 ghost use lib.ListN.{getD};
-ghost use Rattle.limits.specs.Limits.{PROCESSES, ROWS};
+ghost use Rattle.limits.specs.Limits.{PROCESSES, EDGES, ROWS};
 ghost use Rattle.lists.specs.Lists.{any};
 ghost use Rattle.log_queries.specs.Reading.{part, Within};
 ghost use Rattle.checker_inputs.specs.Inputs.{misses-by};
@@ -24,7 +24,7 @@ fn misses<'a>(
     e: usize,
     u: u32,
 ) -> bool
-    requires { ⌜ (e < 128) × (processes ≤ PROCESSES) × (getD (now from) e 0 < PROCESSES)
+    requires { ⌜ (e < EDGES) × (processes ≤ PROCESSES) × (getD (now from) e 0 < PROCESSES)
         × (getD (now knownby) e 0 < ROWS) ⌝ }
     ensures { λ b. ⌜ b ≡ misses-by processes (now (remote .entry)) (now (from .entry)) (now (knownby .entry))
         (now (unmet .entry)) (now (comes .entry)) (now (active .entry)) u e ⌝ }
@@ -52,7 +52,7 @@ pub(crate) fn misses_some<'a>(
     b: usize,
     u: u32,
 ) -> bool
-    requires { ⌜ (b ≤ 128) × (processes ≤ PROCESSES) × Within (now from) (now knownby) (now into) ⌝ }
+    requires { ⌜ (b ≤ EDGES) × (processes ≤ PROCESSES) × Within (now from) (now knownby) (now into) ⌝ }
     ensures { λ z. ⌜ z ≡ any (misses-by processes (now (remote .entry)) (now (from .entry)) (now (knownby .entry))
         (now (unmet .entry)) (now (comes .entry)) (now (active .entry)) u) (part (now (into .entry)) a b) ⌝ }
 {

@@ -31,7 +31,7 @@ fn edge_due<'a>(
     run: &'a [u32; PROCESSES],
     e: usize,
 ) -> u32
-    requires { ⌜ (e < 128) × (getD (now from) e 0 < PROCESSES) ⌝ }
+    requires { ⌜ (e < EDGES) × (getD (now from) e 0 < PROCESSES) ⌝ }
     ensures { λ r. ⌜ r ≡ due-edge (now (from .entry)) (now (unmet .entry)) (now (remote .entry))
         (now (run .entry)) e ⌝ }
 {

@@ -18,7 +18,8 @@ fn together<'a>(
     i: usize,
     j: usize,
 ) -> bool
-    requires { ⌜ (i < 64) × (j < 64) × (getD (now comes) i 0 ≡ 0 → ⊥) × Readable (now comes) (now span) ⌝ }
+    requires { ⌜ (i < PROCESSES) × (j < PROCESSES) × (getD (now comes) i 0 ≡ 0 → ⊥)
+        × Readable (now comes) (now span) ⌝ }
     ensures { λ b. ⌜ b ≡ together-by (now (node .entry)) (now (comes .entry)) (now (span .entry)) i j ⌝ }
 {
     let x = comes[j];
@@ -45,7 +46,7 @@ fn overlaps<'a>(
     span: &'a [u32; ROWS],
     i: usize,
 ) -> bool
-    requires { ⌜ (i < 64) × Readable (now comes) (now span) ⌝ }
+    requires { ⌜ (i < PROCESSES) × Readable (now comes) (now span) ⌝ }
     ensures { λ b. ⌜ b ≡ overlaps-by (now (node .entry)) (now (comes .entry)) (now (span .entry)) i ⌝ }
 {
     if comes[i] == 0 {

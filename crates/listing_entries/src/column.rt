@@ -4,6 +4,7 @@ use listing_bytes::put_digit;
 use listing_bytes::put_labelled;
 use listing_bytes::put_word;
 ghost use Prim.Native.Nat.{_^_, _≤_, _<_};
+ghost use Rattle.limits.specs.Limits.{CONDITIONS, COMBINATIONS};
 ghost use Rattle.text_lines.specs.Put.{Put};
 ghost use Rattle.listing_bytes.specs.Fits.{Fits};
 ghost use Rattle.listing_count.specs.Parts.{value-at, values-from};
@@ -66,8 +67,8 @@ fn put_digit_value(out: &mut [u8], at: usize, known: u32, values: u32, k: u32) -
 
 // Stores the conditions 0 to 5 of a column that are known.
 fn put_six(out: &mut [u8], at: usize, known: u32, values: u32) -> usize
-    requires { ⌜ Fits (now out) at (values-from 6 known values 0) ⌝ }
-    ensures { λ r. ⌜ Put (now (out .entry)) (now (out .exit)) at r (values-from 6 known values 0) ⌝ }
+    requires { ⌜ Fits (now out) at (values-from CONDITIONS known values 0) ⌝ }
+    ensures { λ r. ⌜ Put (now (out .entry)) (now (out .exit)) at r (values-from CONDITIONS known values 0) ⌝ }
 {
     let one = put_digit_value(out, at, known, values, 0);
     let two = put_digit_value(out, one, known / 2, values / 2, 1);
@@ -114,7 +115,8 @@ pub(crate) fn put_values(
     known: u32,
     values: u32,
 ) -> usize
-    requires { ⌜ (sets ≤ 64) × (sets ≤ 2 ^ conditions) × Fits (now out) at (values-from conditions known values 0) ⌝ }
+    requires { ⌜ (sets ≤ COMBINATIONS) × (sets ≤ 2 ^ conditions) × Fits (now out) at
+        (values-from conditions known values 0) ⌝ }
     ensures { λ r. ⌜ Put (now (out .entry)) (now (out .exit)) at r (values-from conditions known values 0) ⌝ }
 {
     if known < sets {

@@ -7,6 +7,7 @@ use listing_bytes::put_long;
 use listing_bytes::put_word;
 ghost use Prim.Native.Nat.{_+_, _^_, _≤_};
 ghost use lib.ListN.{length};
+ghost use Rattle.limits.specs.Limits.{COMBINATIONS};
 ghost use Rattle.text_lines.specs.Label.{labelled};
 ghost use Rattle.text_lines.specs.Put.{Put};
 ghost use Rattle.listing_bytes.specs.Fits.{Fits};
@@ -80,7 +81,7 @@ pub(crate) fn put_line(
     table: &[u32],
     i: usize,
 ) -> usize
-    requires { ⌜ (8 ≤ length (now begin)) × (8 ≤ length (now last)) × (sets ≤ 64) × (sets ≤ 2 ^ conditions)
+    requires { ⌜ (8 ≤ length (now begin)) × (8 ≤ length (now last)) × (sets ≤ COMBINATIONS) × (sets ≤ 2 ^ conditions)
         × (i + 5 ≤ length (now table)) × Fits (now out) at (line-at (now begin) (now last) conditions (now table) i) ⌝ }
     ensures { λ r. ⌜ Put (now (out .entry)) (now (out .exit)) at r
         (line-at (now (begin .entry)) (now (last .entry)) conditions (now (table .entry)) i) ⌝ }

@@ -9,6 +9,7 @@ ghost use mathlib.Core.Path.{_≡_};
 ghost use mathlib.Core.Bool.{true};
 ghost use Prim.Native.Nat.{_+_, _^_, _≤_};
 ghost use lib.ListN.{length, drop, getD};
+ghost use Rattle.limits.specs.Limits.{COMBINATIONS};
 ghost use Rattle.text_lines.specs.Put.{Put};
 ghost use Rattle.listing_bytes.specs.Fits.{Fits};
 ghost use Rattle.listing_count.specs.Parts.{entries-text};
@@ -56,7 +57,7 @@ fn put_lines(
     first: usize,
 ) -> Run
     requires { ⌜ (first + 5 ≤ length (now table)) × Lined processes edges conditions (getD (now table) first 0)
-        (getD (now table) (first + 3) 0) (getD (now table) (first + 4) 0) (now begin) (now last) × (sets ≤ 64)
+        (getD (now table) (first + 3) 0) (getD (now table) (first + 4) 0) (now begin) (now last) × (sets ≤ COMBINATIONS)
         × (sets ≤ 2 ^ conditions) × Fits (now out) at (entries-text processes edges conditions (drop first (now table)))
         ⌝ }
     ensures { λ r. ⌜ Ran processes edges conditions (now (table .entry)) (now (out .entry)) (now (out .exit)) at first
@@ -86,7 +87,7 @@ fn put_run(
     first: usize,
 ) -> Run
     requires { ⌜ (first + 5 ≤ length (now table)) × Begun processes edges conditions (getD (now table) first 0)
-        (now begin) × (sets ≤ 64) × (sets ≤ 2 ^ conditions)
+        (now begin) × (sets ≤ COMBINATIONS) × (sets ≤ 2 ^ conditions)
         × Fits (now out) at (entries-text processes edges conditions (drop first (now table))) ⌝ }
     ensures { λ r. ⌜ Ran processes edges conditions (now (table .entry)) (now (out .entry)) (now (out .exit)) at first
         (r .end) (r .next) ⌝ }
@@ -138,7 +139,7 @@ fn put_runs(
     first: usize,
 ) -> Run
     requires { ⌜ (first + 5 ≤ length (now table)) × Begun processes edges conditions (getD (now table) first 0)
-        (now begin) × (sets ≤ 64) × (sets ≤ 2 ^ conditions)
+        (now begin) × (sets ≤ COMBINATIONS) × (sets ≤ 2 ^ conditions)
         × Fits (now out) at (entries-text processes edges conditions (drop first (now table))) ⌝ }
     ensures { λ r. ⌜ Ran processes edges conditions (now (table .entry)) (now (out .entry)) (now (out .exit)) at first
         (r .end) (r .next) ⌝ }
@@ -176,7 +177,7 @@ fn put_row(
     table: &[u32],
     first: usize,
 ) -> Run
-    requires { ⌜ (first + 5 ≤ length (now table)) × (sets ≤ 64) × (sets ≤ 2 ^ conditions)
+    requires { ⌜ (first + 5 ≤ length (now table)) × (sets ≤ COMBINATIONS) × (sets ≤ 2 ^ conditions)
         × Fits (now out) at (entries-text processes edges conditions (drop first (now table))) ⌝ }
     ensures { λ r. ⌜ Ran processes edges conditions (now (table .entry)) (now (out .entry)) (now (out .exit)) at first
         (r .end) (r .next) ⌝ }

@@ -31,7 +31,7 @@ pub fn message_ready<'a>(
     e: usize,
     u: u32,
 ) -> bool
-    requires { ⌜ (e < 128) × (getD (now from) e 0 < ROWS) × (getD (now knownby) e 0 < ROWS) ⌝ }
+    requires { ⌜ (e < EDGES) × (getD (now from) e 0 < ROWS) × (getD (now knownby) e 0 < ROWS) ⌝ }
     ensures { λ r. ⌜ r ≡ message-by (now (from .entry)) (now (knownby .entry)) (now (unmet .entry)) (now (comes .entry))
         u e ⌝ }
 {
@@ -55,7 +55,7 @@ pub fn delivered<'a>(
     e: usize,
     u: u32,
 ) -> bool
-    requires { ⌜ (e < 128) × (processes ≤ PROCESSES) × (getD (now from) e 0 < ROWS)
+    requires { ⌜ (e < EDGES) × (processes ≤ PROCESSES) × (getD (now from) e 0 < ROWS)
         × (getD (now knownby) e 0 < ROWS) ⌝ }
     ensures { λ r. ⌜ r ≡ delivered-by (now (from .entry)) (now (knownby .entry)) (now (unmet .entry))
         (now (comes .entry)) u processes (now (remote .entry)) e ⌝ }
@@ -76,7 +76,7 @@ pub(crate) fn never<'a>(
     e: usize,
     u: u32,
 ) -> bool
-    requires { ⌜ (e < 128) × (getD (now from) e 0 < PROCESSES) × (getD (now knownby) e 0 < ROWS) ⌝ }
+    requires { ⌜ (e < EDGES) × (getD (now from) e 0 < PROCESSES) × (getD (now knownby) e 0 < ROWS) ⌝ }
     ensures { λ r. ⌜ r ≡ never-by (now (from .entry)) (now (knownby .entry)) (now (unmet .entry)) (now (comes .entry)) u
         (now (run .entry)) e ⌝ }
 {
@@ -102,7 +102,7 @@ fn all_delivered<'a>(
     b: usize,
     u: u32,
 ) -> bool
-    requires { ⌜ (b ≤ 128) × (processes ≤ PROCESSES) × Within (now from) (now knownby) (now into) ⌝ }
+    requires { ⌜ (b ≤ EDGES) × (processes ≤ PROCESSES) × Within (now from) (now knownby) (now into) ⌝ }
     ensures { λ r. ⌜ r ≡ all (delivered-by (now (from .entry)) (now (knownby .entry)) (now (unmet .entry))
         (now (comes .entry)) u processes (now (remote .entry))) (part (now (into .entry)) a b) ⌝ }
 {
@@ -131,7 +131,7 @@ fn any_delivered<'a>(
     b: usize,
     u: u32,
 ) -> bool
-    requires { ⌜ (b ≤ 128) × (processes ≤ PROCESSES) × Within (now from) (now knownby) (now into) ⌝ }
+    requires { ⌜ (b ≤ EDGES) × (processes ≤ PROCESSES) × Within (now from) (now knownby) (now into) ⌝ }
     ensures { λ r. ⌜ r ≡ settled-by (now (from .entry)) (now (knownby .entry)) (now (unmet .entry)) (now (comes .entry))
         u processes (now (remote .entry)) (now (run .entry)) (part (now (into .entry)) a b) ⌝ }
 {

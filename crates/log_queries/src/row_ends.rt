@@ -13,8 +13,8 @@ ghost use Rattle.log_queries.specs.Reading.{known-by, last-end-by};
 
 // The mask of six conditions whose values have arrived by the clock, condition 0 the lowest bit, with no loop.
 fn six_known(rows: &[u32], base: usize, u: u32) -> u32
-    requires { ⌜ base + 6 ≤ length (now rows) ⌝ }
-    ensures { λ r. ⌜ (r ≡ known-by (now (rows .entry)) base 6 u) × (r < 64) ⌝ }
+    requires { ⌜ base + CONDITIONS ≤ length (now rows) ⌝ }
+    ensures { λ r. ⌜ (r ≡ known-by (now (rows .entry)) base CONDITIONS u) × (r < 64) ⌝ }
 {
     let a = number(came(rows[base], u));
     let b = number(came(rows[base + 1], u));

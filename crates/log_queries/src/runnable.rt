@@ -25,7 +25,7 @@ fn all_carry<'a>(
     b: usize,
     u: u32,
 ) -> bool
-    requires { ⌜ (b ≤ 128) × Within (now from) (now knownby) (now into) ⌝ }
+    requires { ⌜ (b ≤ EDGES) × Within (now from) (now knownby) (now into) ⌝ }
     ensures { λ r. ⌜ r ≡ all (carries-by (now (from .entry)) (now (knownby .entry)) (now (unmet .entry))
         (now (comes .entry)) u (now (run .entry))) (part (now (into .entry)) a b) ⌝ }
 {
@@ -52,7 +52,7 @@ fn any_carry<'a>(
     b: usize,
     u: u32,
 ) -> bool
-    requires { ⌜ (b ≤ 128) × Within (now from) (now knownby) (now into) ⌝ }
+    requires { ⌜ (b ≤ EDGES) × Within (now from) (now knownby) (now into) ⌝ }
     ensures { λ r. ⌜ r ≡ any (carries-by (now (from .entry)) (now (knownby .entry)) (now (unmet .entry))
         (now (comes .entry)) u (now (run .entry))) (part (now (into .entry)) a b) ⌝ }
 {

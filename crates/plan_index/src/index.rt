@@ -78,7 +78,7 @@ pub struct PlanIndex {
 // The process that decides each condition.
 fn deciders(p: Plan) -> [u32; CONDITIONS]
     requires { ⌜ p .conditions ≤ CONDITIONS ⌝ }
-    ensures { λ r. ⌜ r ≡ fill 6 (at (p .condition)) (p .conditions) ⌝ }
+    ensures { λ r. ⌜ r ≡ fill CONDITIONS (at (p .condition)) (p .conditions) ⌝ }
 {
     let mut decider = [0u32; CONDITIONS];
     let mut k: usize = 0;

@@ -9,7 +9,7 @@ use limits::STARTS;
 use plan::EdgeTable;
 ghost use mathlib.Core.Path.{_≡_};
 ghost use Prim.Native.Nat.{ℕ, _<_, _≤_};
-ghost use Rattle.limits.specs.Limits.{PROCESSES, CONDITIONS, EDGES, CONDITIONROW};
+ghost use Rattle.limits.specs.Limits.{NODES, PROCESSES, CONDITIONS, EDGES, CONDITIONROW};
 ghost use Rattle.plan.specs.Tests.{at};
 ghost use Rattle.plan_index.specs.LineArrays.{knownby-of, as-any-of, receiver-of, as-any-by-process};
 ghost use Rattle.plan_index.specs.LineArrays.{known-rows-by-edge, remote-by-edge};
@@ -72,7 +72,7 @@ pub(crate) fn known_rows(e: EdgeTable, edges: usize, conditionrow: u32) -> [u32;
 
 // One more than the node that receives, or 0 where the node that sends is the same.
 fn receiver(sends: u32, receives: u32) -> u32
-    requires { ⌜ receives < 8 ⌝ }
+    requires { ⌜ receives < NODES ⌝ }
     ensures { λ r. ⌜ r ≡ receiver-of sends receives ⌝ }
 {
     if sends == receives {
@@ -85,7 +85,7 @@ fn receiver(sends: u32, receives: u32) -> u32
 // node.
 pub(crate) fn remotes(node: [u32; PROCESSES], e: EdgeTable, edges: usize) -> [u32; EDGES]
     requires { ⌜ edges ≤ EDGES ⌝ ∗ ⌜ ((k : ℕ) → at (e .from) k < 64) ⌝ ∗ ⌜ ((k : ℕ) → at (e .to) k < 64) ⌝
-        ∗ ⌜ ((i : ℕ) → at node i < 8) ⌝ }
+        ∗ ⌜ ((i : ℕ) → at node i < NODES) ⌝ }
     ensures { λ r. ⌜ r ≡ remote-by-edge node (e .from) (e .to) edges ⌝ }
 {
     let mut remote = no_edges();

@@ -9,7 +9,7 @@ use limits::PROCESSES;
 use limits::ROWS;
 ghost use mathlib.Core.Path.{_≡_};
 ghost use Prim.Native.Nat.{ℕ, _+_, _-_, _<_, _≤_};
-ghost use Rattle.limits.specs.Limits.{PROCESSES, CONDITIONS, EDGES, ROWS};
+ghost use Rattle.limits.specs.Limits.{NODES, PROCESSES, CONDITIONS, EDGES, ROWS};
 ghost use Rattle.plan.specs.Tests.{at};
 ghost use Rattle.plan_index.specs.RowArrays.{process-of-row, span-of-row, size-of-row, senders-by-row};
 ghost use Rattle.plan_index.specs.RowArrays.{spans-by-row, sizes-by-row};
@@ -66,7 +66,7 @@ fn row_span<'a>(
     row: usize,
     node: u32,
 ) -> u32
-    requires { ⌜ processes ≤ PROCESSES ⌝ ∗ ⌜ node < 8 ⌝ }
+    requires { ⌜ processes ≤ PROCESSES ⌝ ∗ ⌜ node < NODES ⌝ }
     ensures { λ r. ⌜ r ≡ span-of-row (now (ticks .entry)) (now (lasts .entry)) processes row node ⌝ }
 {
     if row < processes {
@@ -84,7 +84,7 @@ pub(crate) fn row_spans<'a>(
     processes: usize,
     rows: usize,
 ) -> [u32; ROWS]
-    requires { ⌜ processes ≤ PROCESSES ⌝ ∗ ⌜ rows ≤ ROWS ⌝ ∗ ⌜ ((r : ℕ) → at (now sender) r < 8) ⌝ }
+    requires { ⌜ processes ≤ PROCESSES ⌝ ∗ ⌜ rows ≤ ROWS ⌝ ∗ ⌜ ((r : ℕ) → at (now sender) r < NODES) ⌝ }
     ensures { λ r. ⌜ r ≡ spans-by-row (now (ticks .entry)) (now (lasts .entry)) (now (sender .entry)) processes rows ⌝ }
 {
     let mut span = no_rows();

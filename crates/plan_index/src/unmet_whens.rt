@@ -5,7 +5,7 @@ use limits::CONDITIONS;
 use limits::EDGES;
 ghost use mathlib.Core.Path.{_≡_};
 ghost use Prim.Native.Nat.{ℕ, _<_, _≤_};
-ghost use Rattle.limits.specs.Limits.{EDGES};
+ghost use Rattle.limits.specs.Limits.{CONDITIONS, EDGES};
 ghost use Rattle.lists.specs.Lists.{fill};
 ghost use Rattle.plan.specs.Tests.{at};
 ghost use Rattle.plan_index.specs.Unmet.{differs, unmet-of, value-of, unmet-by};
@@ -22,7 +22,7 @@ fn differ(a: u32, b: u32) -> u32
 
 // The values of conditions 0 to 5 in a combination: 1 for true, 0 for false.
 fn values(combination: u32) -> [u32; CONDITIONS]
-    ensures { λ r. ⌜ r ≡ fill 6 (value-of combination) 6 ⌝ }
+    ensures { λ r. ⌜ r ≡ fill CONDITIONS (value-of combination) CONDITIONS ⌝ }
 {
     let mut value = [0u32; CONDITIONS];
     let mut rest = combination;
@@ -56,7 +56,7 @@ pub fn unmet<'a>(
     edges: usize,
     combination: u32,
 ) -> [u32; EDGES]
-    requires { ⌜ edges ≤ EDGES ⌝ ∗ ⌜ ((e : ℕ) → at (now condition) e < 6) ⌝ }
+    requires { ⌜ edges ≤ EDGES ⌝ ∗ ⌜ ((e : ℕ) → at (now condition) e < CONDITIONS) ⌝ }
     ensures { λ r. ⌜ r ≡ unmet-by (now (kind .entry)) (now (condition .entry)) edges combination ⌝ }
 {
     let value = values(combination);

@@ -48,7 +48,7 @@ fn weights(pick: Pick, urgency: [u32; PROCESSES]) -> [u32; PROCESSES]
 // The weight of each edge is that of the process it leads to.
 fn receiver_weights(weight: &[u32], to: &[u32; EDGES], edges: usize) -> [u32; EDGES]
     requires { ⌜ edges ≤ EDGES ⌝ }
-    ensures { λ r. ⌜ r ≡ fill 128 (λ e. at (now (weight .entry)) (at (now (to .entry)) e)) edges ⌝ }
+    ensures { λ r. ⌜ r ≡ fill EDGES (λ e. at (now (weight .entry)) (at (now (to .entry)) e)) edges ⌝ }
 {
     let mut w = no_edges();
     let mut e: usize = 0;
@@ -67,7 +67,7 @@ fn sender_keys<'a>(
     edges: usize,
 ) -> [u32; EDGES]
     requires { ⌜ edges ≤ EDGES ⌝ }
-    ensures { λ r. ⌜ r ≡ fill 128 (λ e. sender-key (at (now (node .entry)) (at (now (from .entry)) e))
+    ensures { λ r. ⌜ r ≡ fill EDGES (λ e. sender-key (at (now (node .entry)) (at (now (from .entry)) e))
         (at (now (node .entry)) (at (now (to .entry)) e))) edges ⌝ }
 {
     let mut key = no_edges();

@@ -42,7 +42,7 @@ pub(crate) fn urgencies<'a>(
     to: &'a [u32; EDGES],
     edges: usize,
 ) -> [u32; PROCESSES]
-    requires { ⌜ n ≤ 64 ⌝ ∗ ⌜ edges ≤ EDGES ⌝ ∗ ⌜ ((i : ℕ) → i < n → at (now ticks) i ≤ TICKS) ⌝
+    requires { ⌜ n ≤ PROCESSES ⌝ ∗ ⌜ edges ≤ EDGES ⌝ ∗ ⌜ ((i : ℕ) → i < n → at (now ticks) i ≤ TICKS) ⌝
         ∗ ⌜ Upward (at (now from)) (at (now to)) edges ⌝ }
     ensures { λ r. ⌜ ((k : ℕ) → at r k ≡ getD (urgencies-of (at (now (ticks .entry))) (at (now (from .entry)))
         (at (now (to .entry))) edges 0 n) k 0) ⌝ }

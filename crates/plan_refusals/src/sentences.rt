@@ -20,7 +20,7 @@ use plan_tests::wrong_counts;
 ghost use mathlib.Core.Path.{_≡_};
 ghost use Prim.Native.Nat.{ℕ, _<_, _≤_};
 ghost use lib.ListN.{getD};
-ghost use Rattle.limits.specs.Limits.{NODES, CONDITIONS, EDGES};
+ghost use Rattle.limits.specs.Limits.{NODES, PROCESSES, CONDITIONS, EDGES};
 ghost use Rattle.lists.specs.Lists.{any, below, earlier};
 ghost use Rattle.model.specs.Refusals.{plan-refusal};
 ghost use Rattle.plan.specs.Memory.{lines};
@@ -60,7 +60,8 @@ fn wrong_ends(e: EdgeTable, edges: usize, processes: usize) -> bool
 
 // Two edges share both `from` and `to`.
 fn twin_edges(e: EdgeTable, edges: usize) -> bool
-    requires { ⌜ edges ≤ EDGES ⌝ ∗ ⌜ ((i : ℕ) → i < edges → (getD (e .from) i 0 < 64) × (getD (e .to) i 0 < 64)) ⌝ }
+    requires { ⌜ edges ≤ EDGES ⌝ ∗ ⌜ ((i : ℕ) → i < edges → (getD (e .from) i 0 < PROCESSES) ×
+        (getD (e .to) i 0 < PROCESSES)) ⌝ }
     ensures { λ r. ⌜ r ≡ any (earlier (key (e .from) (e .to))) (below edges) ⌝ }
 {
     any_repeat(&e.from, &e.to, edges)
@@ -84,7 +85,7 @@ fn wrong_whens(e: EdgeTable, edges: usize, decider: [u32; CONDITIONS], condition
 // A message between nodes is longer than its sender's slot.
 fn long_messages(e: EdgeTable, edges: usize, q: ProcessTable, s: SlotTable, slots: usize) -> bool
     requires { ⌜ edges ≤ EDGES ⌝ ∗ ⌜ slots ≤ NODES ⌝
-        ∗ ⌜ ((i : ℕ) → i < edges → (getD (e .from) i 0 < 64) × (getD (e .to) i 0 < 64)) ⌝ }
+        ∗ ⌜ ((i : ℕ) → i < edges → (getD (e .from) i 0 < PROCESSES) × (getD (e .to) i 0 < PROCESSES)) ⌝ }
     ensures { λ r. ⌜ r ≡ any (too-long-at (q .node) (s .node) (s .bytes) slots (e .from) (e .to) (e .bytes))
         (below edges) ⌝ }
 {

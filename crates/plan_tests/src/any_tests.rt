@@ -4,6 +4,7 @@ use arrays::wide;
 ghost use mathlib.Core.Path.{_≡_};
 ghost use Prim.Native.Nat.{ℕ, _<_, _≤_};
 ghost use lib.ListN.{getD, length, replicate};
+ghost use Rattle.limits.specs.Limits.{PROCESSES};
 ghost use Rattle.lists.specs.Lists.{any, below, earlier};
 ghost use Rattle.plan.specs.Tests.{outside-at, not-below-at, at, key, unordered-at};
 
@@ -47,7 +48,7 @@ fn no_marks() -> [u8; 4096]
 // Among the first n pairs of numbers below 64, one stands twice.
 pub fn any_repeat<'a>(high: &'a [u32], low: &'a [u32], n: usize) -> bool
     requires { ⌜ n ≤ length (now high) ⌝ ∗ ⌜ n ≤ length (now low) ⌝
-        ∗ ⌜ ((i : ℕ) → i < n → (getD (now high) i 0 < 64) × (getD (now low) i 0 < 64)) ⌝ }
+        ∗ ⌜ ((i : ℕ) → i < n → (getD (now high) i 0 < PROCESSES) × (getD (now low) i 0 < PROCESSES)) ⌝ }
     ensures { λ r. ⌜ r ≡ any (earlier (key (now (high .entry)) (now (low .entry)))) (below n) ⌝ }
 {
     let mut seen = no_marks();

@@ -36,7 +36,7 @@ fn can_start<'a>(
     i: usize,
     u: u32,
 ) -> bool
-    requires { ⌜ (i < 64) × (processes ≤ PROCESSES) × ((k : ℕ) → getD (now intofirst) k 0 ≤ EDGES)
+    requires { ⌜ (i < PROCESSES) × (processes ≤ PROCESSES) × ((k : ℕ) → getD (now intofirst) k 0 ≤ EDGES)
         × Within (now from) (now knownby) (now into) ⌝ }
     ensures { λ r. ⌜ r ≡ can-start processes (now (remote .entry)) (now (from .entry)) (now (knownby .entry))
         (now (unmet .entry)) (now (run .entry)) (now (asany .entry)) (now (intofirst .entry)) (now (into .entry)) u
@@ -78,7 +78,7 @@ fn pick<'a>(
     b: usize,
     u: u32,
 ) -> u32
-    requires { ⌜ (b ≤ 128) × (processes ≤ PROCESSES) × ((k : ℕ) → getD (now intofirst) k 0 ≤ EDGES)
+    requires { ⌜ (b ≤ EDGES) × (processes ≤ PROCESSES) × ((k : ℕ) → getD (now intofirst) k 0 ≤ EDGES)
         × Within (now from) (now knownby) (now into) × ((j : ℕ) → getD (now dispatch) j 0 < PROCESSES) ⌝ }
     ensures { λ r. ⌜ r ≡ first-of (can-start processes (now (remote .entry)) (now (from .entry)) (now (knownby .entry))
         (now (unmet .entry)) (now (run .entry)) (now (asany .entry)) (now (intofirst .entry)) (now (into .entry)) u
@@ -129,7 +129,7 @@ fn start<'a>(
     last: u32,
     comes: &mut [u32; ROWS],
 ) -> u32
-    requires { ⌜ (b ≤ 128) × (processes ≤ PROCESSES) × ((k : ℕ) → getD (now intofirst) k 0 ≤ EDGES)
+    requires { ⌜ (b ≤ EDGES) × (processes ≤ PROCESSES) × ((k : ℕ) → getD (now intofirst) k 0 ≤ EDGES)
         × Within (now from) (now knownby) (now into) × ((j : ℕ) → getD (now dispatch) j 0 < PROCESSES) × (u ≤ LASTCLOCK)
         × ((i : ℕ) → getD (now ticks) i 0 ≤ TICKS) ⌝ }
     ensures end { λ r. ⌜ r ≡ end-after (first-of (can-start processes (now (remote .entry)) (now (from .entry))
@@ -283,7 +283,7 @@ pub fn starts<'a>(
         (now (into .entry)) u (now (dispatchfirst .entry)) (now (dispatch .entry)) (now (ticks .entry)) slots
         (record { busy = now (busy .entry); comes = now (comes .entry) }) .comes ⌝ }
     ensures soonest { λ r. ⌜ (length (now (busy .entry))
-        ≡ 8 → Soonest slots u (now (busy .entry)) (now (busy .exit)) r) ⌝ }
+        ≡ NODES → Soonest slots u (now (busy .entry)) (now (busy .exit)) r) ⌝ }
 {
     let mut first: u32 = NEVER;
     let mut left = new;

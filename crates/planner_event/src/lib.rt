@@ -48,7 +48,7 @@ fn note_one<'a>(
 )
     requires { ⌜ (conditionrow ≤ CONDITIONROW) × (k < CONDITIONS) ⌝ }
     ensures { λ _. ⌜ now (noted .exit) ≡ (if eqb (getD (now (comes .entry)) (conditionrow + k) 0) u then sets
-        (now (noted .entry)) (k * 8) (now (passed .entry)) else now (noted .entry)) ⌝ }
+        (now (noted .entry)) (k * NODES) (now (passed .entry)) else now (noted .entry)) ⌝ }
 {
     if comes[conditionrow + k] == u {
         copy_at(passed, noted, k * NODES);
@@ -144,7 +144,7 @@ fn begin<'a>(
         (now (into .entry)) u (now (dispatchfirst .entry)) (now (dispatch .entry)) (now (ticks .entry)) slots
         (record { busy = now (busy .entry); comes = now (comes .entry) }) .comes ⌝ }
     ensures soonest { λ r. ⌜ (length (now (busy .entry))
-        ≡ 8 → Soonest slots u (now (busy .entry)) (now (busy .exit)) r) ⌝ }
+        ≡ NODES → Soonest slots u (now (busy .entry)) (now (busy .exit)) r) ⌝ }
 {
     if come == u {
         return starts(

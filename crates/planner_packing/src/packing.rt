@@ -23,7 +23,7 @@ ghost use Rattle.planner_pending.specs.Packing.{broadcasts-sent, with-broadcast
 
 // Moves wait[j .. z] down to place k. The place behind them.
 fn move_down(wait: &mut [u32; EDGES], k: usize, j: usize, z: usize) -> usize
-    requires { ⌜ (k ≤ j) × (j ≤ z) × (z ≤ 128) × (length (now wait) ≡ EDGES) ⌝ }
+    requires { ⌜ (k ≤ j) × (j ≤ z) × (z ≤ EDGES) × (length (now wait) ≡ EDGES) ⌝ }
     ensures listed { λ r. ⌜ Listed (now (wait .entry)) (now (wait .exit)) k r (part (now (wait .entry)) j z) ⌝ }
     ensures behind { λ r. ⌜ r ≡ k + (z - j) ⌝ }
 {
@@ -40,7 +40,7 @@ fn move_down(wait: &mut [u32; EDGES], k: usize, j: usize, z: usize) -> usize
 
 // Whether the message of edge e fits so many bytes.
 fn fits(bytes: &[u32; EDGES], e: u32, left: u32) -> bool
-    requires { ⌜ e < 128 ⌝ }
+    requires { ⌜ e < EDGES ⌝ }
     ensures { λ r. ⌜ r ≡ leb (getD (now (bytes .entry)) e 0) left ⌝ }
 {
     bytes[e as usize] <= left
@@ -57,7 +57,8 @@ fn lay(
     place: &mut [u32; ROWS],
     lastarrival: &mut [u32; NODES],
 )
-    requires { ⌜ (processes ≤ PROCESSES) × (e < 128) × (1 ≤ getD (now remote) e 0) × (getD (now remote) e 0 ≤ 8) ⌝ }
+    requires { ⌜ (processes ≤ PROCESSES) × (e < EDGES) × (1 ≤ getD (now remote) e 0)
+        × (getD (now remote) e 0 ≤ NODES) ⌝ }
     ensures rows { λ _. ⌜ now (comes .exit) ≡ set (now (comes .entry)) (processes + e) end ⌝ }
     ensures places { λ _. ⌜ now (place .exit) ≡ set (now (place .entry)) (processes + e) used ⌝ }
     ensures arrivals { λ _. ⌜ now (lastarrival .exit)
@@ -95,9 +96,9 @@ fn take_messages<'a>(
     place: &mut [u32; ROWS],
     lastarrival: &mut [u32; NODES],
 ) -> Packed
-    requires { ⌜ (processes ≤ PROCESSES) × (a ≤ z) × (z ≤ 128) × (first .used ≤ room) × (length (now wait) ≡ EDGES)
-        × ((j : ℕ) → getD (now wait) j 0 < 128) × ((e : ℕ) → In e (part (now wait) a z) → 1 ≤ getD (now remote) e 0)
-        × ((e : ℕ) → getD (now remote) e 0 ≤ 8) ⌝ }
+    requires { ⌜ (processes ≤ PROCESSES) × (a ≤ z) × (z ≤ EDGES) × (first .used ≤ room) × (length (now wait) ≡ EDGES)
+        × ((j : ℕ) → getD (now wait) j 0 < EDGES) × ((e : ℕ) → In e (part (now wait) a z) → 1 ≤ getD (now remote) e 0)
+        × ((e : ℕ) → getD (now remote) e 0 ≤ NODES) ⌝ }
     ensures load { λ r. ⌜ load (r .used) (r .short) (now (comes .exit)) (now (place .exit))
         ≡ take-all processes (now (bytes .entry)) room end (part (now (wait .entry)) a z)
         (load (first .used) (first .short) (now (comes .entry)) (now (place .entry))) ⌝ }
@@ -200,9 +201,9 @@ pub(crate) fn send<'a>(
     lastarrival: &mut [u32; NODES],
 ) -> Sent
     requires { ⌜ (processes ≤ PROCESSES) × (conditionrow ≤ CONDITIONROW) × (conditions ≤ CONDITIONS) × (slots ≤ NODES)
-        × (a ≤ z) × (z ≤ 128) × ((k : ℕ) → getD (now decider) k 0 < PROCESSES) × (length (now wait) ≡ EDGES)
-        × ((j : ℕ) → getD (now wait) j 0 < 128) × ((e : ℕ) → In e (part (now wait) a z) → 1 ≤ getD (now remote) e 0)
-        × ((e : ℕ) → getD (now remote) e 0 ≤ 8) ⌝ }
+        × (a ≤ z) × (z ≤ EDGES) × ((k : ℕ) → getD (now decider) k 0 < PROCESSES) × (length (now wait) ≡ EDGES)
+        × ((j : ℕ) → getD (now wait) j 0 < EDGES) × ((e : ℕ) → In e (part (now wait) a z) → 1 ≤ getD (now remote) e 0)
+        × ((e : ℕ) → getD (now remote) e 0 ≤ NODES) ⌝ }
     ensures load { λ r. ⌜ load (r .used) (r .short) (now (comes .exit)) (now (place .exit))
         ≡ take-all processes (now (bytes .entry)) room end (part (now (wait .entry)) a z)
         (broadcasts-sent conditionrow conditions (now (decider .entry)) (now (node .entry)) n room u end

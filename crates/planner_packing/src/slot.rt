@@ -59,8 +59,8 @@ fn fill<'a>(
         × ((k : ℕ) → getD (now queuefirst) k 0 ≤ EDGES) × (u ≤ LASTCLOCK) × (getD (now lasts) n 0 ≤ SLOTTICKS)
         × ((k : ℕ) → getD (now passed) k 0 ≤ u) × ((e : ℕ) → In e
         (part (now wait) (getD (now queuefirst) n 0) (getD (now waitend) n 0)) → 1 ≤ getD (now remote) e 0)
-        × ((e : ℕ) → getD (now remote) e 0 ≤ 8) × (getD (now queuefirst) n 0 ≤ getD (now waitend) n 0)
-        × (getD (now waitend) n 0 ≤ EDGES) × (length (now wait) ≡ EDGES) × ((j : ℕ) → getD (now wait) j 0 < 128) ⌝ }
+        × ((e : ℕ) → getD (now remote) e 0 ≤ NODES) × (getD (now queuefirst) n 0 ≤ getD (now waitend) n 0)
+        × (getD (now waitend) n 0 ≤ EDGES) × (length (now wait) ≡ EDGES) × ((j : ℕ) → getD (now wait) j 0 < EDGES) ⌝ }
     ensures taken { λ r. ⌜ bus (r .slotend) (r .broadcastend) (now (comes .exit)) (now (place .exit))
         (now (passed .exit)) ≡ fill-with processes conditionrow conditions (now (decider .entry)) (now (node .entry))
         (now (bytes .entry)) (now (lasts .entry)) (now (rooms .entry)) n u
@@ -158,7 +158,7 @@ pub fn send_slot<'a>(
         × (1 ≤ round) × (round ≤ ROUNDTICKS) × ((k : ℕ) → k < slots → getD (now offset) k 0 ≤ round) × (u ≤ LASTCLOCK)
         × ((k : ℕ) → k < slots → getD (now lasts) k 0 ≤ SLOTTICKS) × ((k : ℕ) → getD (now passed) k 0 ≤ u)
         × (n < slots → (e : ℕ) → In e (part (now wait) (getD (now queuefirst) n 0) (getD (now waitend) n 0)) → 1 ≤ getD
-        (now remote) e 0) × ((e : ℕ) → getD (now remote) e 0 ≤ 8)
+        (now remote) e 0) × ((e : ℕ) → getD (now remote) e 0 ≤ NODES)
         × (n < slots → getD (now queuefirst) n 0 ≤ getD (now waitend) n 0)
         × (n < slots → getD (now waitend) n 0 ≤ getD (now queuefirst) (n + 1) 0) × Roomy (now wait) (now waitend) ⌝ }
     ensures taken { λ r. ⌜ bus (r .slotend) (r .broadcastend) (now (comes .exit)) (now (place .exit))

@@ -20,7 +20,7 @@ fn waits<'a>(
     e: usize,
     u: u32,
 ) -> bool
-    requires { ⌜ (e < 128) × (processes ≤ PROCESSES) × (getD (now from) e 0 < PROCESSES)
+    requires { ⌜ (e < EDGES) × (processes ≤ PROCESSES) × (getD (now from) e 0 < PROCESSES)
         × (getD (now knownby) e 0 < ROWS) ⌝ }
     ensures { λ r. ⌜ r ≡ waits-by processes (now (from .entry)) (now (knownby .entry)) (now (unmet .entry))
         (now (comes .entry)) u e ⌝ }
@@ -45,7 +45,7 @@ pub fn find_waiting<'a>(
     u: u32,
     wait: &mut [u32; EDGES],
 ) -> usize
-    requires { ⌜ (processes ≤ PROCESSES) × (a ≤ b) × (b ≤ 128) × Within (now from) (now knownby) (now queue)
+    requires { ⌜ (processes ≤ PROCESSES) × (a ≤ b) × (b ≤ EDGES) × Within (now from) (now knownby) (now queue)
         × (length (now wait) ≡ EDGES) ⌝ }
     ensures listed { λ r. ⌜ Listed (now (wait .entry)) (now (wait .exit)) a r
         (keep (waits-by processes (now (from .entry)) (now (knownby .entry)) (now (unmet .entry)) (now (comes .entry))

@@ -122,7 +122,7 @@ fn last_ends<'a>(
     rows: &'a [u32; ROWS],
     processes: usize,
 ) -> [u32; NODES]
-    requires { ⌜ (processes ≤ PROCESSES) × ((i : ℕ) → getD (now node) i 0 < 8) ⌝ }
+    requires { ⌜ (processes ≤ PROCESSES) × ((i : ℕ) → getD (now node) i 0 < NODES) ⌝ }
     ensures { λ r. ⌜ r ≡ ends-below (now (node .entry)) (now (rows .entry)) processes ⌝ }
 {
     let mut ends = no_counts();
@@ -138,7 +138,7 @@ fn last_ends<'a>(
 // Where the counts of a source stand: those noted as its condition's value arrives, or the last ones where it never
 // does.
 fn place_of_counts(s: Source) -> usize
-    requires { ⌜ (s .from < 64) × (s .condition < 6) ⌝ }
+    requires { ⌜ (s .from < COMBINATIONS) × (s .condition < CONDITIONS) ⌝ }
     ensures { λ r. ⌜ r ≡ counts-at s ⌝ }
 {
     if s.clock == NEVER {
@@ -168,7 +168,7 @@ pub fn shared_prefix<'a>(
     noted: &mut [u32; NOTED],
 ) -> u32
     requires { ⌜ (c < COMBINATIONS) × (c < 2 ^ conditions) × (processes ≤ PROCESSES) × (conditionrow ≤ CONDITIONROW)
-        × (conditions ≤ CONDITIONS) × (slots ≤ NODES) × ((i : ℕ) → getD (now node) i 0 < 8)
+        × (conditions ≤ CONDITIONS) × (slots ≤ NODES) × ((i : ℕ) → getD (now node) i 0 < NODES)
         × (length (now place) ≡ ENTRIES) ⌝ ∗ ⌜ (now rows ≡ replicate ROWS 0) × (now places ≡ replicate ROWS 0)
         × (now ends ≡ replicate NODES 0) × (now counts ≡ replicate NODES 0) × (now noted ≡ replicate NOTED 0) ⌝ }
     ensures { λ r. ⌜ Prefix-shared processes conditionrow conditions slots c r (now (node .entry)) (now (span .entry))

@@ -16,7 +16,7 @@ ghost use Rattle.planner_slot_times.specs.Clocks.{changes-at, event-now}
 
 // The mask of the nodes that have the clock u in an array by node.
 fn at_clock(by: &[u32; NODES], u: u32) -> u32
-    ensures { λ r. ⌜ r ≡ mask-from (λ n. eqb (getD (now (by .entry)) n 0) u) 0 8 ⌝ }
+    ensures { λ r. ⌜ r ≡ mask-from (λ n. eqb (getD (now (by .entry)) n 0) u) 0 NODES ⌝ }
 {
     let mut mask: u32 = 0;
     let mut n: usize = NODES;
@@ -39,7 +39,7 @@ pub fn changed_nodes<'a>(u: u32, lastarrival: &'a [u32; NODES], busy: &'a [u32; 
 
 // Whether the slot of a node takes an item at clock u.
 fn any_sends(nextsend: &[u32; NODES], u: u32) -> bool
-    ensures { λ r. ⌜ r ≡ any (λ n. eqb (getD (now (nextsend .entry)) n 0) u) (below 8) ⌝ }
+    ensures { λ r. ⌜ r ≡ any (λ n. eqb (getD (now (nextsend .entry)) n 0) u) (below NODES) ⌝ }
 {
     let mut found = false;
     let mut n: usize = 0;
@@ -132,7 +132,7 @@ pub fn changes(broadcastend: u32, ends: u32, u: u32) -> u32
 
 // The next event: `come`, or when the slot of a node takes an item, if that is sooner.
 pub fn next_event(nextsend: &[u32; NODES], come: u32) -> u32
-    ensures { λ r. ⌜ r ≡ event-now (now (nextsend .entry)) come 8 ⌝ }
+    ensures { λ r. ⌜ r ≡ event-now (now (nextsend .entry)) come NODES ⌝ }
 {
     let mut least = come;
     let mut n: usize = 0;

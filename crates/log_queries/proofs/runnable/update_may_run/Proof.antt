@@ -1,5 +1,5 @@
--- `log_queries::update_may_run` meets its contract: what may run is worked out where the test says so, and stays as it was
--- elsewhere.
+-- `log_queries::update_may_run` meets its contract: what may run is worked out where the test says so, and stays as it
+-- was elsewhere.
 -- Assumes nothing.
 use mathlib.Core.Path.{_∙_, sym}
 use native.Mathlib.Omega.{arith}
