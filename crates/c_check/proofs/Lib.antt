@@ -1,6 +1,4 @@
--- Laws of a table of many entries: Entry (an entry that is copied is the table's), ManyRefused (the answer to more
--- entries than combinations times rows).
-pub mod Entry
+-- Laws of a table of many entries: ManyRefused (the answer to more entries than combinations times rows).
 pub mod ManyRefused
 -- Laws of a table lent as bytes: Copied (words that are copied are the table's).
 pub mod Copied

@@ -1,6 +1,6 @@
 // Checks a table of more than 12,672 entries, one for each row and combination, lent as bytes: refusal 13, or else 14.
 use bitset::combinations_of;
-use c_words::read_words;
+use c_words::entry_of;
 use checker::Checked;
 use checker_rules::ill_formed;
 use limits::EDGES;
@@ -34,8 +34,7 @@ fn ill_formed_at<'a>(
     ensures { λ r. ⌜ r ≡ ill-formed-by processes conditionrow rows combinations (now (remote .entry))
         (entry-from (words-of (now (bytes .entry))) at) ⌝ }
 {
-    let mut five = [0u32; 5];
-    read_words(bytes, at, &mut five);
+    let five = entry_of(bytes, at);
     ill_formed(
         &five,
         0,

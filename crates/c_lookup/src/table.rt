@@ -2,9 +2,8 @@
 use crate::search::first_fitting;
 use arrays::wide;
 use kernel::Found;
+use kernel::row_nodes;
 use plan::Plan;
-use plan::edge_table;
-use plan::process_table;
 ghost use mathlib.Core.Path.{_≡_};
 ghost use Rattle.model.specs.Refusals.{nothing, plan-refusal};
 ghost use Rattle.model.specs.Firmware.{words-of};
@@ -30,22 +29,6 @@ pub(crate) fn lookup_bytes(
     if p.slots <= wide(node) {
         return Found::None;
     }
-    let q = process_table(p);
-    let e = edge_table(p);
-    let conditionrow = p.processes + p.edges;
-    let rows = conditionrow + p.conditions;
-    first_fitting(
-        bytes,
-        first,
-        &e.from,
-        &p.condition,
-        &q.node,
-        p.processes,
-        conditionrow,
-        rows,
-        node,
-        tick,
-        heard,
-        values,
-    )
+    let b = row_nodes(p);
+    first_fitting(bytes, first, b, node, tick, heard, values)
 }

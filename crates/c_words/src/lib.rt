@@ -6,6 +6,7 @@ mod words;
 mod words_out;
 
 pub use numbers::refused;
+pub use words::entry_of;
 pub use words::entry_words;
 pub use words::how_many;
 pub use words::read_words;

@@ -50,6 +50,16 @@ pub fn read_words<'a>(bytes: &'a [u8], from: usize, out: &mut [u32])
     }
 }
 
+// The five words of the entry that begins at word `at` of the bytes.
+pub fn entry_of(bytes: &[u8], at: usize) -> [u32; 5]
+    requires { ⌜ at + 5 ≤ length (words-of (now bytes)) ⌝ }
+    ensures { λ r. ⌜ r ≡ take 5 (drop at (words-of (now (bytes .entry)))) ⌝ }
+{
+    let mut five = [0u32; 5];
+    read_words(bytes, at, &mut five);
+    five
+}
+
 // The words of 12,672 entries, all 0: no table has more, one entry for each row and combination.
 pub fn entry_words() -> [u32; TABLEWORDS]
     ensures { λ r. ⌜ r ≡ replicate TABLEWORDS 0 ⌝ }

@@ -21,9 +21,9 @@ use Rattle.laws.proofs.Good.{Good, good}
 use Rattle.plan.specs.declared.Plan.{Plan}
 use Rattle.plan.specs.Memory.{lines}
 use Rattle.plan.specs.Tests.{at}
-use Rattle.plan.specs.Tables.{processes-table, edges-table}
 use Rattle.plan.proofs.TestsOnLines.{Few, processes-length, edges-length, conditions-length, slots-length, decider-at, process-node, edge-from}
-use Rattle.kernel.specs.Finding.{process-of-row, fits-by, find-by, Small}
+use Rattle.kernel.specs.declared.nodes.RowNodes.{RowNodes}
+use Rattle.kernel.specs.Finding.{nodes-of, process-by, node-by, fits-by, find-by, Small}
 
 -- a refusal of the plan is the answer
 pub is-refused : (p : Plan) (ws : List ℕ) (n t h v first r : ℕ) → plan-refusal (lines p) ≡ refused r → lookup (lines p) ws n t h v first ≡ refusal r
@@ -47,17 +47,14 @@ module _ (p : Plan) (ok : plan-refusal (lines p) ≡ nothing) where
         edges = omega (arith, facts .few-edges, edges-length p);
       }
 
-  abbrev conditionrow : ℕ
-  conditionrow = p .processes + p .edges
+  abbrev b : RowNodes
+  b = nodes-of p
 
-  abbrev all-rows : ℕ
-  all-rows = p .processes + p .edges + p .conditions
-
-  row-count : all-rows ≡ rows (lines p)
+  row-count : b .rows ≡ rows (lines p)
   row-count = sym (λ j. processes-length p j + edges-length p j + conditions-length p j)
 
   -- how large the numbers in the arrays are
-  from-small : (e : ℕ) → at (edges-table p .from) e < 64
+  from-small : (e : ℕ) → at (b .from) e < 64
   from-small e = rw (edge-from p few e) (by (two (ltb e (p .edges))))
     where
       by : (ltb e (p .edges) ≡ true) ⊎ (ltb e (p .edges) ≡ false) → edge (lines p) e .from < 64
@@ -67,7 +64,7 @@ module _ (p : Plan) (ok : plan-refusal (lines p) ≡ nothing) where
           let z : edge (lines p) e ≡ record { from = 0; to = 0; bytes = 0; when = always } = List·getD-eq-default (lines p .edges) _ (omega (arith, edges-length p)) in
           omega (arith, ap (λ (x : Edge). x .from) z)
 
-  pub small : Small (edges-table p .from) (p .condition) (p .processes) conditionrow all-rows
+  pub small : Small b
   small =
       record {
         few-processes = few .processes;
@@ -81,50 +78,45 @@ module _ (p : Plan) (ok : plan-refusal (lines p) ≡ nothing) where
       }
 
   -- the process and the node of a row
-  process-same : (r : ℕ) → r < all-rows → process-of-row (edges-table p .from) (p .condition) (p .processes) conditionrow r ≡ sender (lines p) r
+  process-same : (r : ℕ) → r < b .rows → process-by b r ≡ sender (lines p) r
   unfolding sender
-  process-same r l = rw (processes-length p, edges-length p) (by (two (ltb r conditionrow)))
+  process-same r l = rw (processes-length p, edges-length p) (by (two (ltb r (b .conditionrow))))
     where
-      by : (ltb r conditionrow ≡ true) ⊎ (ltb r conditionrow ≡ false) →
-          (if ltb r (p .processes) then r else if ltb r conditionrow then at (edges-table p .from) (r - p .processes) else at (p .condition) (r - conditionrow))
-          ≡ (if ltb r (p .processes) then r else if ltb r conditionrow then edge (lines p) (r - p .processes) .from else decider (lines p) (r - conditionrow))
+      by : (ltb r (b .conditionrow) ≡ true) ⊎ (ltb r (b .conditionrow) ≡ false) →
+          process-by b r
+          ≡ (if ltb r (p .processes) then r else if ltb r (b .conditionrow) then edge (lines p) (r - p .processes) .from else decider (lines p) (r - b .conditionrow))
       by (inl e) = rw e (λ j. if ltb r (p .processes) then r else edge-from p few (r - p .processes) j)
-      by (inr e) = let k = ltb-false r conditionrow e in rw e (λ j. if ltb r (p .processes) then r else decider-at p (r - conditionrow) (omega arith) j)
+      by (inr e) = let k = ltb-false r (b .conditionrow) e in rw e (λ j. if ltb r (p .processes) then r else decider-at p (r - b .conditionrow) (omega arith) j)
 
-  node-same : (r : ℕ) → r < all-rows → at (processes-table p .node) (process-of-row (edges-table p .from) (p .condition) (p .processes) conditionrow r) ≡ row-node (lines p) r
+  node-same : (r : ℕ) → r < b .rows → node-by b r ≡ row-node (lines p) r
   unfolding row-node
-  node-same r l =
-      process-node p few (process-of-row (edges-table p .from) (p .condition) (p .processes) conditionrow r)
-      ∙ ap (λ (i : ℕ). process (lines p) i .node) (process-same r l)
+  node-same r l = process-node p few (process-by b r) ∙ ap (λ (i : ℕ). process (lines p) i .node) (process-same r l)
 
   module _ (n t h v : ℕ) where
-    -- the test over the plan's arrays
-    abbrev test : Entry → Bool
-    test = fits-by (edges-table p .from) (p .condition) (processes-table p .node) (p .processes) conditionrow all-rows n t h v
-
-    fits-same : (e : Entry) → test e ≡ fits (lines p) n t h v e
+    fits-same : (e : Entry) → fits-by b n t h v e ≡ fits (lines p) n t h v e
     unfolding fits-by fits
-    fits-same e = rw (← row-count) (by (two (ltb (e .row) all-rows)))
+    fits-same e = rw (← row-count) (by (two (ltb (e .row) (b .rows))))
       where
-        by : (ltb (e .row) all-rows ≡ true) ⊎ (ltb (e .row) all-rows ≡ false) →
-            (ltb (e .row) all-rows && eqb (at (processes-table p .node) (process-of-row (edges-table p .from) (p .condition) (p .processes) conditionrow (e .row))) n && eqb (e .tick) t
-            && bits-met 32 (e .known) (e .values) h v)
-            ≡ (ltb (e .row) all-rows && eqb (row-node (lines p) (e .row)) n && eqb (e .tick) t && bits-met 32 (e .known) (e .values) h v)
+        by : (ltb (e .row) (b .rows) ≡ true) ⊎ (ltb (e .row) (b .rows) ≡ false) →
+            (ltb (e .row) (b .rows) && eqb (node-by b (e .row)) n && eqb (e .tick) t && bits-met 32 (e .known) (e .values) h v)
+            ≡ (ltb (e .row) (b .rows) && eqb (row-node (lines p) (e .row)) n && eqb (e .tick) t && bits-met 32 (e .known) (e .values) h v)
         by (inl q) =
-            λ j. ltb (e .row) all-rows && eqb (node-same (e .row) (ltb-true (e .row) all-rows q) j) n && eqb (e .tick) t && bits-met 32 (e .known) (e .values) h v
+            λ j. ltb (e .row) (b .rows) && eqb (node-same (e .row) (ltb-true (e .row) (b .rows) q) j) n && eqb (e .tick) t && bits-met 32 (e .known) (e .values) h v
         by (inr q) = rw q
 
     -- and so the search
-    find-same : (es : List Entry) (i : ℕ) → find-by test es i ≡ find (lines p) n t h v es i
+    find-same : (es : List Entry) (i : ℕ) → find-by (fits-by b n t h v) es i ≡ find (lines p) n t h v es i
     unfolding find-by find
     find-same [] i = refl
     find-same (e ∷ es) i =
-        one-dispatch (test e) (fits (lines p) n t h v e) i (find-by test es (suc i)) (find (lines p) n t h v es (suc i)) (fits-same e) (find-same es (suc i))
+        one-dispatch (fits-by b n t h v e) (fits (lines p) n t h v e) i (find-by (fits-by b n t h v) es (suc i)) (find (lines p) n t h v es (suc i)) (fits-same e) (find-same es (suc i))
 
-    pub looked-up : (ws : List ℕ) (first : ℕ) → n < p .slots → lookup (lines p) ws n t h v first ≡ find-by test (drop first (entries-of ws)) first
+    pub looked-up : {x : RowNodes} → x ≡ b → (ws : List ℕ) (first : ℕ) → n < p .slots →
+        find-by (fits-by x n t h v) (drop first (entries-of ws)) first ≡ lookup (lines p) ws n t h v first
     unfolding lookup unless
-    looked-up ws first l =
-        rw (ok, unless, lt-ltb n (length (lines p .slots)) (omega (arith, slots-length p))) (sym (find-same (drop first (entries-of ws)) first))
+    looked-up e ws first l =
+        ap (λ (y : RowNodes). find-by (fits-by y n t h v) (drop first (entries-of ws)) first) e
+        ∙ rw (ok, unless, lt-ltb n (length (lines p .slots)) (omega (arith, slots-length p))) (find-same (drop first (entries-of ws)) first)
 
     -- "An unknown node gives none".
     pub unknown : (ws : List ℕ) (first : ℕ) → p .slots ≤ n → lookup (lines p) ws n t h v first ≡ none

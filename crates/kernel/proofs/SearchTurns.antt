@@ -3,21 +3,21 @@
 -- Assumes nothing.
 use mathlib.Core.Path.{_≡_, sym, ap, _∙_}
 use mathlib.Core.Logic.{_⊎_, inl, inr}
-use mathlib.Core.Bool.{Bool, true, false, _&&_}
+use mathlib.Core.Bool.{Bool, true, false}
 use mathlib.Core.List.{List, _∷_}
 use Prim.Native.Nat.{ℕ, suc, _+_, _-_, _/_, _≤_, _<_}
 use native.Mathlib.Numerals.{add-one}
 use native.Mathlib.Omega.{arith}
-use lib.Dec.{eqb, ltb}
+use lib.Dec.{ltb}
 use lib.ListN.{length, drop}
 use borrow.Author.Tests.{ltb-true, ltb-false, lt-ltb, le-ltb, eq-eqb, ne-eqb}
-use Rattle.lists.proofs.Tests.{two, and-false, and-true}
+use Rattle.lists.proofs.Tests.{two, and-false}
 use Rattle.model.specs.Table.{Entry, entries-of, bits-met}
 use Rattle.model.specs.Lookup.{entry, none}
 use Rattle.kernel_rows.specs.Entries.{entry-at}
 use Rattle.kernel_rows.proofs.Entries.{entries-next, entries-end}
-use Rattle.plan.specs.Tests.{at}
-use Rattle.kernel.specs.Finding.{process-of-row, row-fits, fits-by, find-by, Small}
+use Rattle.kernel.specs.declared.nodes.RowNodes.{RowNodes}
+use Rattle.kernel.specs.Finding.{process-by, node-by, fits-by, find-by, Small}
 
 module _ (f : Entry → Bool) where
   passes : (e : Entry) (es : List Entry) (i : ℕ) → f e ≡ true → find-by f (e ∷ es) i ≡ entry i
@@ -41,38 +41,29 @@ module _ (f : Entry → Bool) where
         ap (λ (es : List Entry). find-by f es i) (entries-next ws i l) ∙ fails (entry-at ws i) (drop (i + 1) (entries-of ws)) i q
         ∙ ap (find-by f (drop (i + 1) (entries-of ws))) (sym (add-one i))
 
--- the test of an entry over a plan's arrays: another tick decides it, and at the tick its row and column do
-module _ (from decider nodes : List ℕ) (processes conditionrow rows n t h v : ℕ) (e : Entry) where
-  pub other-tick : (e .tick ≡ t → ⊥) → fits-by from decider nodes processes conditionrow rows n t h v e ≡ false
+-- the test of an entry over a plan's arrays: another tick, no such row or another node decides it, and else its column
+module _ (b : RowNodes) (n t h v : ℕ) (e : Entry) where
+  pub other-tick : (e .tick ≡ t → ⊥) → fits-by b n t h v e ≡ false
   unfolding fits-by
   other-tick q = simp (ne-eqb (e .tick) t q, and-false)
 
-  pub at-tick : e .tick ≡ t → fits-by from decider nodes processes conditionrow rows n t h v e ≡ row-fits from decider nodes processes conditionrow rows n h v (e .row) (e .known) (e .values)
-  unfolding fits-by row-fits
-  at-tick q =
-      rw (eq-eqb (e .tick) t q, and-true (ltb (e .row) rows && eqb (at nodes (process-of-row from decider processes conditionrow (e .row))) n))
+  pub no-row : b .rows ≤ e .row → fits-by b n t h v e ≡ false
+  unfolding fits-by
+  no-row l = rw (le-ltb (e .row) (b .rows) l)
 
--- the test of a row and a column
-module _ (from decider nodes : List ℕ) (processes conditionrow rows n h v row known values : ℕ) where
-  pub no-row : rows ≤ row → row-fits from decider nodes processes conditionrow rows n h v row known values ≡ false
-  unfolding row-fits
-  no-row l = rw (le-ltb row rows l)
+  pub other-node : (node-by b (e .row) ≡ n → ⊥) → fits-by b n t h v e ≡ false
+  unfolding fits-by
+  other-node q = simp (ne-eqb (node-by b (e .row)) n q, and-false)
 
-  pub other-node : (at nodes (process-of-row from decider processes conditionrow row) ≡ n → ⊥) → row-fits from decider nodes processes conditionrow rows n h v row known values ≡ false
-  unfolding row-fits
-  other-node q = simp (ne-eqb (at nodes (process-of-row from decider processes conditionrow row)) n q, and-false)
-
-  pub by-column : row < rows → at nodes (process-of-row from decider processes conditionrow row) ≡ n →
-      row-fits from decider nodes processes conditionrow rows n h v row known values ≡ bits-met 32 known values h v
-  unfolding row-fits
-  by-column l q = rw (lt-ltb row rows l, eq-eqb (at nodes (process-of-row from decider processes conditionrow row)) n q)
+  pub by-column : e .tick ≡ t → e .row < b .rows → node-by b (e .row) ≡ n → fits-by b n t h v e ≡ bits-met 32 (e .known) (e .values) h v
+  unfolding fits-by
+  by-column q l m = rw (lt-ltb (e .row) (b .rows) l, eq-eqb (node-by b (e .row)) n m, eq-eqb (e .tick) t q)
 
 -- a row belongs to a process
-pub process-below : (from decider : List ℕ) (processes conditionrow rows r : ℕ) → Small from decider processes conditionrow rows → r < rows →
-    process-of-row from decider processes conditionrow r < 64
-process-below from decider processes conditionrow rows r s l = by (two (ltb r processes)) (two (ltb r conditionrow))
+pub process-below : (b : RowNodes) (r : ℕ) → Small b → r < b .rows → process-by b r < 64
+process-below b r s l = by (two (ltb r (b .processes))) (two (ltb r (b .conditionrow)))
   where
-    by : (ltb r processes ≡ true) ⊎ (ltb r processes ≡ false) → (ltb r conditionrow ≡ true) ⊎ (ltb r conditionrow ≡ false) → process-of-row from decider processes conditionrow r < 64
-    by (inl a) b = let u = ltb-true r processes a in rw a (omega (arith, s .few-processes))
-    by (inr a) (inl b) = rw (a, b) (s .senders (r - processes))
-    by (inr a) (inr b) = let u = ltb-false r conditionrow b in rw (a, b) (s .deciders (r - conditionrow) (omega arith))
+    by : (ltb r (b .processes) ≡ true) ⊎ (ltb r (b .processes) ≡ false) → (ltb r (b .conditionrow) ≡ true) ⊎ (ltb r (b .conditionrow) ≡ false) → process-by b r < 64
+    by (inl x) y = let u = ltb-true r (b .processes) x in rw x (omega (arith, s .few-processes))
+    by (inr x) (inl y) = rw (x, y) (s .senders (r - b .processes))
+    by (inr x) (inr y) = let u = ltb-false r (b .conditionrow) y in rw (x, y) (s .deciders (r - b .conditionrow) (omega arith))

@@ -1,10 +1,9 @@
 // The kernel lookup: which entry of a table a unit takes up next.
+use crate::nodes::row_nodes;
 use crate::search::Found;
 use crate::search::first_fitting;
 use arrays::wide;
 use plan::Plan;
-use plan::edge_table;
-use plan::process_table;
 use plan_refusals::Refusal;
 use plan_refusals::refuse;
 ghost use mathlib.Core.Path.{_≡_};
@@ -30,24 +29,8 @@ fn found_in(
     if p.slots <= wide(node) {
         return Found::None;
     }
-    let q = process_table(p);
-    let e = edge_table(p);
-    let conditionrow = p.processes + p.edges;
-    let rows = conditionrow + p.conditions;
-    first_fitting(
-        table,
-        first,
-        &e.from,
-        &p.condition,
-        &q.node,
-        p.processes,
-        conditionrow,
-        rows,
-        node,
-        tick,
-        heard,
-        values,
-    )
+    let b = row_nodes(p);
+    first_fitting(table, first, b, node, tick, heard, values)
 }
 
 // The kernel lookup: the number of the first entry, from number `first` on, of a node at a tick whose known bits are

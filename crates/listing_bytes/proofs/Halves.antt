@@ -18,8 +18,8 @@ module _ (word : List ℕ) (from : ℕ) {l m : List ℕ} where
       let b : i < length (drop from word) = omega (arith, length-drop from word) in
       rw (add-one i, take-suc (drop from word) i 0 b, getD-drop from word i 0) (put-then p (record { count = omega arith; holds = refl }))
 
-  pub part-whole : {i : ℕ} → length l ≡ i → from + i ≤ length word → Put l m 0 i (take i (drop from word)) → m ≡ take i (drop from word)
-  part-whole {i} e h p = p .holds ∙ sets-whole (take i (drop from word)) l (length-take-le i (drop from word) (omega (arith, length-drop from word)) ∙ sym e)
+  pub part-whole : from + length l ≤ length word → Put l m 0 (length l) (take (length l) (drop from word)) → m ≡ take (length l) (drop from word)
+  part-whole h p = p .holds ∙ sets-whole (take (length l) (drop from word)) l (length-take-le (length l) (drop from word) (omega (arith, length-drop from word)))
 
 -- the first k bytes and the last k of a word
 module _ (word : List ℕ) (k : ℕ) (enough : k ≤ length word) (most : length word ≤ k + k) where
@@ -32,16 +32,17 @@ module _ (word : List ℕ) (k : ℕ) (enough : k ≤ length word) (most : length
   first-parts : take k word ≡ take rest word ++ take (k - rest) (drop rest word)
   first-parts = let e : k ≡ rest + (k - rest) = omega arith in ap (λ (n : ℕ). take n word) e ∙ take-add rest (k - rest) word
 
-  pub put-halves : {l m n : List ℕ} {at i j : ℕ} → Put l m at i (take k word) → Put m n (at + rest) j (take k (drop rest word)) → Put l n at j word
-  put-halves {l} {m} {n} {at} p q =
+  pub put-halves : {l m n first last : List ℕ} {at i j : ℕ} → first ≡ take k word → last ≡ take k (drop rest word) →
+      Put l m at i first → Put m n (at + rest) j last → Put l n at j word
+  put-halves {l} {m} {n} {first} {last} {at} a b p q =
       let u = take rest word in
       let v = drop rest word in
       let s : length u ≡ rest = length-take-le rest word (omega arith) in
       record {
-        count = omega (arith, q .count, ap length last-all, length-drop rest word);
+        count = omega (arith, q .count, ap length (b ∙ last-all), length-drop rest word);
         holds =
             q .holds
-            ∙ rw (last-all, p .holds, first-parts, sets-append u (take (k - rest) v) l at, s)
+            ∙ rw (b, last-all, p .holds, a, first-parts, sets-append u (take (k - rest) v) l at, s)
             (sets-over (take (k - rest) v) v (sets l at u) (at + rest) (omega (arith, length-take (k - rest) v)))
             ∙ sym (ap (sets l at) (sym (take-append-drop rest word)) ∙ sets-append u v l at ∙ ap (λ (o : ℕ). sets (sets l at u) (at + o) v) s);
       }

@@ -18,32 +18,16 @@ pub fn put_word(out: &mut [u8], at: usize, word: &[u8]) -> usize
     at + i
 }
 
-// Eight bytes of a word, from a place in it on.
-fn eight_of(word: &[u8], from: usize) -> [u8; 8]
-    requires { ⌜ from + 8 ≤ length (now word) ⌝ }
-    ensures { λ r. ⌜ r ≡ take 8 (drop from (now (word .entry))) ⌝ }
+// Copies a part of a word, from a place in it on, into lent bytes: as many bytes as are lent.
+fn part_of<'a>(word: &'a [u8], from: usize, part: &mut [u8])
+    requires { ⌜ from + length (now part) ≤ length (now word) ⌝ }
+    ensures { λ r. ⌜ now (part .exit) ≡ take (length (now (part .entry))) (drop from (now (word .entry))) ⌝ }
 {
-    let mut part = [0u8; 8];
     let mut i: usize = 0;
-    while i < 8 {
+    while i < part.len() {
         part[i] = word[from + i];
         i += 1;
     }
-    part
-}
-
-// Sixteen bytes of a word, from a place in it on.
-fn sixteen_of(word: &[u8], from: usize) -> [u8; 16]
-    requires { ⌜ from + 16 ≤ length (now word) ⌝ }
-    ensures { λ r. ⌜ r ≡ take 16 (drop from (now (word .entry))) ⌝ }
-{
-    let mut part = [0u8; 16];
-    let mut i: usize = 0;
-    while i < 16 {
-        part[i] = word[from + i];
-        i += 1;
-    }
-    part
 }
 
 // Stores a word of eight to sixteen bytes as its first eight and its last eight, which may overlap.
@@ -52,8 +36,10 @@ fn put_eights(out: &mut [u8], at: usize, word: &[u8]) -> usize
     ensures { λ r. ⌜ Put (now (out .entry)) (now (out .exit)) at r (now (word .entry)) ⌝ }
 {
     let rest = word.len() - 8;
-    let first = eight_of(word, 0);
-    let last = eight_of(word, rest);
+    let mut first = [0u8; 8];
+    let mut last = [0u8; 8];
+    part_of(word, 0, &mut first);
+    part_of(word, rest, &mut last);
     put_word(out, at, &first);
     put_word(out, at + rest, &last)
 }
@@ -64,8 +50,10 @@ fn put_sixteens(out: &mut [u8], at: usize, word: &[u8]) -> usize
     ensures { λ r. ⌜ Put (now (out .entry)) (now (out .exit)) at r (now (word .entry)) ⌝ }
 {
     let rest = word.len() - 16;
-    let first = sixteen_of(word, 0);
-    let last = sixteen_of(word, rest);
+    let mut first = [0u8; 16];
+    let mut last = [0u8; 16];
+    part_of(word, 0, &mut first);
+    part_of(word, rest, &mut last);
     put_word(out, at, &first);
     put_word(out, at + rest, &last)
 }

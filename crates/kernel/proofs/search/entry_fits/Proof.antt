@@ -1,11 +1,24 @@
--- `kernel::entry_fits` meets its contract: another tick decides it, and at the tick its row and column do.
+-- `kernel::entry_fits` meets its contract: each test that fails decides it, and the last is that of the column.
 -- Assumes nothing.
-use mathlib.Core.Path.{sym, _∙_}
-use Rattle.kernel_rows.specs.Entries.{entry-at}
-use Rattle.kernel.proofs.SearchTurns.{other-tick, at-tick}
+use mathlib.Core.Path.{_≡_, sym, ap, _∙_}
+use Prim.Native.Nat.{_<_}
+use native.Mathlib.Omega.{arith}
 use borrow.Author.Needs.{needs}
+use Rattle.model.specs.Table.{Entry}
+use Rattle.plan.specs.Tests.{at}
+use Rattle.kernel_rows.specs.Entries.{entry-at}
+use Rattle.kernel.specs.declared.nodes.RowNodes.{RowNodes}
+use Rattle.kernel.specs.Finding.{process-of-row, row-nodes, process-by}
+use Rattle.kernel.proofs.SearchTurns.{other-tick, no-row, other-node, by-column, process-below}
 use Rattle.kernel.proofs.search.entry_fits.Statement.{statement}
 use Rattle.kernel.proofs.search.entry_fits.Tie as tie
+
+-- what is asked of the plan, and the entry
+abbrev plan : tie.Start → RowNodes
+plan s = let a = s .args in row-nodes (a .from .now) (a .decider .now) (a .nodes .now) (a .processes) (a .conditionrow) (a .rows)
+
+abbrev entry : tie.Start → Entry
+entry s = entry-at (s .args .table .now) (s .args .i)
 
 mul-at : tie.Need-mul-at
 mul-at c = search needs
@@ -21,41 +34,89 @@ shared-slice-read-if1 c = search needs
 
 returns : tie.Need-returns
 returns c =
-    let a = c .before .before .before .args in
-    sym (other-tick (a .from .now) (a .decider .now) (a .nodes .now) (a .processes) (a .conditionrow) (a .rows) (a .node) (a .tick) (a .heard) (a .told) (entry-at (a .table .now) (a .i)) (c .if1 .taken))
+    let s = c .before .before .before in
+    let a = s .args in
+    sym (other-tick (plan s) (a .node) (a .tick) (a .heard) (a .told) (entry s) (c .if1 .taken))
 
-mul-row-fits : tie.Need-mul-row-fits
-mul-row-fits c = search needs
+mul-wide : tie.Need-mul-wide
+mul-wide c = search needs
 
-shared-slice-read-row-fits : tie.Need-shared-slice-read-row-fits
-shared-slice-read-row-fits c = search needs
+shared-slice-read-wide : tie.Need-shared-slice-read-wide
+shared-slice-read-wide c = search needs
 
-add-row-fits : tie.Need-add-row-fits
-add-row-fits c = search needs
+wide-requires : tie.Need-wide-requires
+wide-requires c κs = search needs
 
-mul-row-fits-2 : tie.Need-mul-row-fits-2
-mul-row-fits-2 c = search needs
-
-shared-slice-read-row-fits-2 : tie.Need-shared-slice-read-row-fits-2
-shared-slice-read-row-fits-2 c = search needs
-
-add-row-fits-2 : tie.Need-add-row-fits-2
-add-row-fits-2 c = search needs
-
-mul-row-fits-3 : tie.Need-mul-row-fits-3
-mul-row-fits-3 c = search needs
-
-shared-slice-read-row-fits-3 : tie.Need-shared-slice-read-row-fits-3
-shared-slice-read-row-fits-3 c = search needs
-
-row-fits-requires : tie.Need-row-fits-requires
-row-fits-requires c κs = search needs
+-- where the function begins
+abbrev start : tie.After-wide → tie.Start
+start c = c .before .before .before .before .before
 
 returns-2 : tie.Need-returns-2
 returns-2 c =
-    let t = c .before .before .before .before in
-    let a = t .before .before .before .args in
-    c .row-fits .ensures ∙ sym (at-tick (a .from .now) (a .decider .now) (a .nodes .now) (a .processes) (a .conditionrow) (a .rows) (a .node) (a .tick) (a .heard) (a .told) (entry-at (a .table .now) (a .i)) (t .if1 .left))
+    let s = start (c .before) in
+    let a = s .args in
+    sym (no-row (plan s) (a .node) (a .tick) (a .heard) (a .told) (entry s) (omega (arith, c .before .wide .ensures, c .if2 .taken)))
+
+row-process-requires : tie.Need-row-process-requires
+row-process-requires c κs = search needs
+
+-- there is such a row, and the process is the row's
+within : (c : tie.Else2) → entry (start (c .before)) .row < plan (start (c .before)) .rows
+within c = omega (arith, c .before .wide .ensures, c .if2 .left)
+
+told : (c : tie.After-row-process) → let s = start (c .before .before) in c .row-process .result ≡ process-by (plan s) (entry s .row)
+told c =
+    let a = start (c .before .before) .args in
+    c .row-process .ensures ∙ ap (process-of-row (a .from .now) (a .decider .now) (a .processes) (a .conditionrow)) (c .before .before .wide .ensures)
+
+below : (c : tie.After-row-process) → c .row-process .result < 64
+below c =
+    let s = start (c .before .before) in
+    omega (arith, told c, process-below (plan s) (entry s .row) (s .pre .1) (within (c .before)))
+
+mul-if3 : tie.Need-mul-if3
+mul-if3 c = omega (arith, below c)
+
+element-copy-out-if3 : tie.Need-element-copy-out-if3
+element-copy-out-if3 c = omega (arith, below c)
+
+returns-3 : tie.Need-returns-3
+returns-3 c =
+    let r = c .before .before in
+    let s = start (r .before .before) in
+    let a = s .args in
+    sym (other-node (plan s) (a .node) (a .tick) (a .heard) (a .told) (entry s) (λ q. c .if3 .taken (ap (at (a .nodes .now)) (told r) ∙ q)))
+
+add-column-met : tie.Need-add-column-met
+add-column-met c = search needs
+
+mul-column-met : tie.Need-mul-column-met
+mul-column-met c = search needs
+
+shared-slice-read-column-met : tie.Need-shared-slice-read-column-met
+shared-slice-read-column-met c = search needs
+
+add-column-met-2 : tie.Need-add-column-met-2
+add-column-met-2 c = search needs
+
+mul-column-met-2 : tie.Need-mul-column-met-2
+mul-column-met-2 c = search needs
+
+shared-slice-read-column-met-2 : tie.Need-shared-slice-read-column-met-2
+shared-slice-read-column-met-2 c = search needs
+
+column-met-requires : tie.Need-column-met-requires
+column-met-requires c κs = search needs
+
+returns-4 : tie.Need-returns-4
+returns-4 c =
+    let f = c .before .before .before in
+    let r = f .before .before in
+    let w = r .before .before in
+    let s = start w in
+    let a = s .args in
+    c .column-met .ensures
+    ∙ sym (by-column (plan s) (a .node) (a .tick) (a .heard) (a .told) (entry s) (w .before .before .if1 .left) (within (r .before)) (sym (ap (at (a .nodes .now)) (told r)) ∙ f .if3 .left))
 
 pub entry-fits-spec : {M : Type 1} → statement M
 entry-fits-spec =
@@ -66,13 +127,19 @@ entry-fits-spec =
     mul-if1
     shared-slice-read-if1
     returns
-    mul-row-fits
-    shared-slice-read-row-fits
-    add-row-fits
-    mul-row-fits-2
-    shared-slice-read-row-fits-2
-    add-row-fits-2
-    mul-row-fits-3
-    shared-slice-read-row-fits-3
-    row-fits-requires
-    returns-2)
+    mul-wide
+    shared-slice-read-wide
+    wide-requires
+    returns-2
+    row-process-requires
+    mul-if3
+    element-copy-out-if3
+    returns-3
+    add-column-met
+    mul-column-met
+    shared-slice-read-column-met
+    add-column-met-2
+    mul-column-met-2
+    shared-slice-read-column-met-2
+    column-met-requires
+    returns-4)
