@@ -6,11 +6,10 @@ use mathlib.Core.List.{List, [], _∷_, _++_, append-nil}
 use Prim.Native.Nat.{ℕ, zero, suc, _+_, _*_, _/_, _%_, _<_, min}
 use native.Mathlib.Numerals.{add-one}
 use native.Mathlib.Omega.{arith}
-use lib.ListN.{length, getD, set, take, drop-of-length-le}
+use lib.ListN.{length, getD, set, take}
 use lib.Seq.{sets, take-suc, take-nil, length-take-le}
-use Rattle.lists.specs.Front.{front}
 use Rattle.lists.proofs.Keep.{each-append}
-use Rattle.lists.proofs.Stores.{sets-append, sets-front}
+use Rattle.lists.proofs.Stores.{sets-append}
 use Rattle.c_words.specs.Bytes.{word-bytes, bytes-of}
 
 -- four bytes for each word
@@ -75,14 +74,6 @@ store-byte bytes lent i l =
     ap (λ (n : ℕ). set (sets lent 0 (take i bytes)) n (getD bytes i 0)) e
     ∙ sym (sets-append (take i bytes) (getD bytes i 0 ∷ []) lent 0)
     ∙ rw (add-one, take-suc bytes i 0 l)
-
--- stores into every place leave nothing of what stood there
-pub sets-all : (words lent : List ℕ) → length words ≡ length lent → sets lent 0 words ≡ words
-unfolding front
-sets-all words lent e =
-    sets-front words lent (omega arith)
-    ∙ ap (λ (r : List ℕ). words ++ r) (drop-of-length-le lent {i = length words} (omega arith))
-    ∙ append-nil words
 
 -- as many as there are, and no more
 pub take-within : (n : ℕ) (bytes : List ℕ) → take (min n (length bytes)) bytes ≡ take n bytes

@@ -7,9 +7,10 @@ use native.Mathlib.Omega.{arith}
 use lib.ListN.{length, set, take, drop, length-drop, length-set}
 use lib.Seq.{sets, getD-drop, length-take-le}
 use borrow.Author.Needs.{needs}
+use Rattle.lists.proofs.Stores.{sets-whole}
 use Rattle.model.specs.Firmware.{words-of}
 use Rattle.c_words.proofs.Reading.{words-count}
-use Rattle.c_words.proofs.Writing.{store-byte, sets-all}
+use Rattle.c_words.proofs.Writing.{store-byte}
 use Rattle.c_words.proofs.words.read_words.Statement.{statement}
 use Rattle.c_words.proofs.words.read_words.Tie as tie
 
@@ -69,7 +70,7 @@ returns c =
     let n : length (take (length lent) read) ≡ length lent = length-take-le (length lent) read (omega (arith, length-drop (a .from) (words-of (a .bytes .now)), s .pre)) in
     l .loop .inv .2
     ∙ ap (λ (n : ℕ). sets lent 0 (take n read)) e
-    ∙ sets-all (take (length lent) read) lent n
+    ∙ sets-whole (take (length lent) read) lent n
 
 pub read-words-spec : {M : Type 1} → statement M
 read-words-spec =
