@@ -42,7 +42,7 @@ later p es stated =
     (sentence 20 (not (eqb stated (greatest-delay p es)))
     nothing))))))
 
--- a number and the delay, judged
+-- the verdict on a number and the delay
 judge : (n d stated : ℕ) → verdict-by (record { first = n; delay = d }) stated ≡ answer-of (refusal-at n (sentence 20 (not (eqb stated d)) nothing))
 unfolding verdict-by answer-of
 judge n d stated = at (eqb n 20) (eqb stated d)

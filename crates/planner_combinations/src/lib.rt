@@ -41,9 +41,9 @@ pub fn how_many(conditions: usize) -> usize
     wide(combinations_of(conditions))
 }
 
-// Plans every combination: `comes` and `place` hold the log of combination c from place c * ROWS on. Its rows that start
-// before clock `since[c]` are taken over from an earlier combination. `notes` is of ones, which are stored by fewer
-// instructions than zeros are (docs/PERFORMANCE.md); none is read before its combination is stored.
+// Plans every combination: `comes` and `place` hold the log of combination c from place c * ROWS on. Its rows that
+// start before clock `since[c]` are taken over from an earlier combination. `notes` is of ones, which are stored by
+// fewer instructions than zeros are (docs/PERFORMANCE.md); none is read before its combination is stored.
 pub fn plan_combinations(
     b: PlanIndex,
     comes: &mut [u32; ENTRIES],

@@ -248,7 +248,7 @@ fn start_node<'a>(
 // Each free node starts its first ready process in dispatch order that has not started: `busy` has then the end of each
 // node's last process, and `comes` the end of each process. `new` is the mask of the nodes for which something is new
 // at this clock; the others have nothing to start and are passed by. The answer is the end of the process that ends
-// first of those that start, or 2,000,000,000.
+// first of those that start, or `NEVER`.
 pub fn starts<'a>(
     processes: usize,
     slots: usize,

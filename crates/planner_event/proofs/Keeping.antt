@@ -223,7 +223,7 @@ module _ (b : PlanIndex) (f : Fits b) (unmet : List ℕ) where
                 eight = k .nextsend-long;
               })
 
-      -- the node that is served
+      -- the node that sends
       module _ (low : m .u ≤ last-event) (n : ℕ) (sending-node-is : n ≡ sending-node-by due₁ (m .u) (b .slots)) where
         nextsend-slot : (i : ℕ) → i < b .slots → getD due₁ i 0 ≡ m .u → begins-by (b .round) (b .offset) (m .u - 1) i ≡ true
         unfolding next-send-from begins-by
@@ -665,7 +665,7 @@ module _ (b : PlanIndex) (f : Fits b) (unmet : List ℕ) where
                   at (inr e) = ap (broadcast-of i) (no-slot n (b .slots) due₁ (set due₁ n x) e nextsend-is) ∙ looked .beyond i l ∙ k .dues-past i l h
                   at (inl o) = nextsend-other i (λ z. omega (arith, z)) ∙ looked .beyond i l ∙ k .dues-past i l h
 
-              -- a slot that is not the one served next takes an item after this event
+              -- a slot that is not the one that sends next takes an item after this event
               not-now : (i : ℕ) → i < b .slots → (i ≡ n → ⊥) → getD due₁ i 0 ≡ m .u → ⊥
               not-now i l d q = at one
                 where

@@ -1,6 +1,6 @@
 -- What is looked at as an event begins: by node when its slot next takes an item, and the node whose slot takes one
--- now. Serving that node alone is serving the slot that begins, and the next event is the one that the kept array
--- gives.
+-- now. That this slot alone sends is that the slot that begins sends, and the next event is the one that the kept
+-- array gives.
 -- Assumes nothing.
 use Prim.Native.Nat.{ℕ, zero, suc, min, _+_, _-_, _≤_, _<_}
 use mathlib.Core.Path.{_≡_, refl, sym, ap, _∙_}
@@ -128,7 +128,7 @@ module _ (pending : ℕ → Bool) (round : ℕ) (offset : List ℕ) (u come : �
       let q : 8 ≡ slots + (8 - slots) = omega arith in
       ap (event-now nextsend come) q ∙ event-past m slots (8 - slots) (λ k a c. g k a (omega arith)) ∙ event-below m slots f
 
--- The node that is served: the one whose slot begins and that has an item pending, or none where no such slot begins.
+-- The node that sends: the one whose slot begins and that has an item pending, or none where no such slot begins.
 module _ (b : PlanIndex) (f : Fits b) (unmet : List ℕ) (m : Moment) (comes : List ℕ) where
   abbrev begins : ℕ → Bool
   begins = begins-by (b .round) (b .offset) (m .u - 1)

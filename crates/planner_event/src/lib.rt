@@ -108,7 +108,7 @@ fn new_nodes<'a>(come: u32, u: u32, lastarrival: &'a [u32; NODES], busy: &'a [u3
 
 // Each free node starts, where a row is over at this clock. Where none is, no node can start. A node that is not in the
 // mask `new` has nothing to start. The answer is the end of the process that ends first of those that start, or
-// 2,000,000,000.
+// `NEVER`.
 fn begin<'a>(
     come: u32,
     processes: usize,

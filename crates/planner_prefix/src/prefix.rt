@@ -24,14 +24,14 @@ ghost use Rattle.planner_prefix.specs.Prefix.{cut-one, cut, ends-below, 
 ghost use Rattle.planner_prefix.specs.Prefix.{counts-at, Prefix-shared};
 
 // The combination that another takes over from, the condition in which the two differ, and the clock up to which they
-// are planned alike: that at which the condition's value arrives, or 2,000,000,000 where it never does.
+// are planned alike: that at which the condition's value arrives, or `NEVER` where it never does.
 pub struct Source {
     pub from: usize,
     pub condition: usize,
     pub clock: u32,
 }
 
-// The clock at which a value arrives: x, or 2,000,000,000 where x is 0.
+// The clock at which a value arrives: x, or `NEVER` where x is 0.
 fn arrives(x: u32) -> u32
     ensures { λ r. ⌜ r ≡ arrival x ⌝ }
 {

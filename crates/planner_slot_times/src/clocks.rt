@@ -90,7 +90,7 @@ pub fn sooner(least: u32, x: u32, u: u32) -> u32
     least
 }
 
-// The next clock after u at which a process ends, or 2,000,000,000.
+// The next clock after u at which a process ends, or `NEVER`.
 fn next_end(busy: &[u32; NODES], slots: usize, u: u32) -> u32
     requires { ⌜ slots ≤ NODES ⌝ }
     ensures { λ r. ⌜ r ≡ come-by 0 (now (busy .entry)) u slots ⌝ }

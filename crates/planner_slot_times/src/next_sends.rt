@@ -64,8 +64,8 @@ fn has_pending<'a>(
     has_broadcast(conditionrow, conditions, decider, node, comes, n as u32, u)
 }
 
-// The clock of the first beginning of a slot from a tick on where its node has an item pending, or 2,000,000,000 where
-// it has none. It is pub for the crate serving.
+// The clock of the first beginning of a slot from a tick on where its node has an item pending, or `NEVER` where it has
+// none.
 pub fn next_send_from(round: u32, offset: u32, tick: u32, pending: bool) -> u32
     requires { ⌜ (1 ≤ round) × (round ≤ ROUNDTICKS) × (offset ≤ round) × (tick ≤ LASTCLOCK) ⌝ }
     ensures { λ r. ⌜ r ≡ next-send-from round offset tick pending ⌝ }
