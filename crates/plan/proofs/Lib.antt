@@ -1,5 +1,6 @@
 -- Laws of the plan in memory: Counted (the lines that a count names), TestsOnLines (tests over the arrays and tests on
--- the lines), Sentences (refusals in their order).
+-- the lines), RefusalOrder (refusals in their order), Below (numbers below a bound).
 pub mod Counted
 pub mod TestsOnLines
 pub mod RefusalOrder
+pub mod Below

@@ -1,8 +1,20 @@
-// The plan in memory: structs by value, counts and arrays, and its lines as tables of numbers. `lines` in
-// specs/Memory.antt says which lines of document 01 a plan stands for.
+// The plan in memory: structs by value, counts and arrays, its lines as tables of numbers, and the tests that refusals
+// 2 to 9 are made of: on one number or one line (fields), and over arrays of numbers (any_tests). `lines` in
+// specs/Memory.antt says which lines of document 01 a plan stands for, specs/Tests.antt what the tests say.
 // Document 01: "Two plans in memory are the same if the lines they stand for are."
+mod any_tests;
+mod fields;
 mod tables;
 
+pub use any_tests::any_not_below;
+pub use any_tests::any_outside;
+pub use any_tests::any_repeat;
+pub use any_tests::any_twice;
+pub use any_tests::any_unordered;
+pub use fields::is_longer;
+pub use fields::is_outside;
+pub use fields::is_undecided;
+pub use fields::wrong_counts;
 use limits::CONDITIONS;
 use limits::EDGES;
 use limits::PROCESSES;

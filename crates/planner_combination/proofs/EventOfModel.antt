@@ -45,8 +45,8 @@ use Rattle.planner_slot_times.proofs.Firsts.{First, found, missing, first-below
 use Rattle.log_queries.specs.Hearing.{heard-by}
 use Rattle.planner_slot_times.specs.NextSends.{pending-in}
 use Rattle.planner_packing.specs.Slot.{Bus, bus, filled, fill-by}
-use Rattle.planner_event.specs.Events.{last-event, Moment, begun-by, begins-by, slot-at-by, send-slot-by, next-slot, event-by, hears, begins-with, sends-slot, waiting, moves, next, notes-below, note-by, notes}
-use Rattle.planner_event.proofs.Ahead.{come-after, come-slotend, come-busy, event-come, event-slot, event-after}
+use Rattle.planner_combination.specs.Events.{last-event, Moment, begun-by, begins-by, slot-at-by, send-slot-by, next-slot, event-by, hears, begins-with, sends-slot, waiting, moves, next, notes-below, note-by, notes}
+use Rattle.planner_combination.proofs.Ahead.{come-after, come-slotend, come-busy, event-come, event-slot, event-after}
 use Rattle.planner_combination.proofs.Noting.{notes-long, notes-at}
 use Rattle.planner_combination.proofs.Standing.{Slot-end, past, ahead, slot-end-later, At}
 

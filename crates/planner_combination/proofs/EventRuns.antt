@@ -7,9 +7,9 @@ use mathlib.Core.List.{List}
 use native.Mathlib.Omega.{arith}
 use lib.ListN.{length, getD, replicate}
 use Rattle.plan_index.specs.declared.index.PlanIndex.{PlanIndex}
-use Rattle.planner_event.specs.Events.{last-event, Moment, moment, hears, begins-with, sends-slot, waiting, notes, moves, next, Leads, over, on, Ended, from-clock, Fits, index-of}
-use Rattle.planner_event.specs.Kept.{Begins}
-use Rattle.planner_event.proofs.EventParts.{next-counts, next-long, next-later}
+use Rattle.planner_combination.specs.Events.{last-event, Moment, moment, hears, begins-with, sends-slot, waiting, notes, moves, next, Leads, over, on, Ended, from-clock, Fits, index-of}
+use Rattle.planner_combination.specs.Kept.{Begins}
+use Rattle.planner_combination.proofs.EventParts.{next-counts, next-long, next-later}
 
 module _ (b : PlanIndex) (unmet : List ℕ) where
   -- the events before a moment: what it leads to the first one leads to

@@ -1,5 +1,23 @@
+-- One event is what the definition says, by what is kept by node from event to event: Ahead (when the next event is),
+-- Endings (when a process next ends), Beginnings (when a slot begins), Filling (what a slot changes), Begun (what
+-- starts change), Pending (when what is pending stays), Arrivals (at which nodes items arrive), NextSends (what is
+-- looked at as an event begins), Queue (what a slot takes of the messages that wait), Keeping (that what is kept says
+-- the truth at every event), WholeEvent (an event as a whole). EventParts has what the proofs of the functions rest on.
+pub mod Ahead
+pub mod Endings
+pub mod EventParts
+pub mod Beginnings
+pub mod Filling
+pub mod Begun
+pub mod Pending
+pub mod Arrivals
+pub mod Queue
+pub mod NextSends
+pub mod Keeping
+pub mod WholeEvent
 -- Planning from event to event is the planning of the model: Standing (what the arrays hold at an event), Noting (what
--- is noted as values become known), Event (what one event does to all that), Planned (where a run of events leads).
+-- is noted as values become known), EventOfModel (what one event does to all that), Planned (where a run of events
+-- leads).
 -- EventRuns has what the proof of the loop rests on.
 pub mod Standing
 pub mod Noting

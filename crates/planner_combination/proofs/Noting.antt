@@ -13,7 +13,7 @@ use lib.Seq.{sets, length-sets}
 use Rattle.lists.specs.Lists.{if_then_else_}
 use Rattle.lists.proofs.Tests.{below-suc}
 use Rattle.lists.proofs.Stores.{sets-before, sets-after, sets-at}
-use Rattle.planner_event.specs.Events.{notes-below}
+use Rattle.planner_combination.specs.Events.{notes-below}
 
 module _ (comes : List ℕ) (u conditionrow : ℕ) (passed noted : List ℕ) (eight : length passed ≡ 8) (all : length noted ≡ 48) where
   pub notes-long : (c : ℕ) → length (notes-below comes u conditionrow passed c noted) ≡ 48

@@ -19,7 +19,7 @@ use Rattle.laws.proofs.Steps.{log-at, view-at}
 use Rattle.log_queries.specs.Reading.{came-by}
 use Rattle.log_queries.specs.Holding.{Held, Runs}
 use Rattle.planner_dispatch.specs.Busy.{Busy}
-use Rattle.planner_event.specs.Events.{Moment}
+use Rattle.planner_combination.specs.Events.{Moment}
 
 -- a clock at which a slot ends that began before tick t, or one that is past
 pub data Slot-end (p : Lines) (t x : ℕ) : Type 0 where

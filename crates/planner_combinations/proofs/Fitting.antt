@@ -30,8 +30,8 @@ use Rattle.planner_dispatch.proofs.NodeOrders.{dispatch-member, dispatch-unit}
 use Rattle.plan_index.specs.declared.index.PlanIndex.{PlanIndex}
 use Rattle.plan_index.specs.Unmet.{unmet-by}
 use Rattle.plan_index.specs.Indexed.{Indexed}
-use Rattle.planner_event.specs.Events.{begins-by, from-clock, Fits}
-use Rattle.planner_event.specs.Kept.{Begins}
+use Rattle.planner_combination.specs.Events.{begins-by, from-clock, Fits}
+use Rattle.planner_combination.specs.Kept.{Begins}
 use Rattle.table_entries.specs.Logs.{numbered}
 use Rattle.planner_combinations.specs.Combinations.{Ready}
 

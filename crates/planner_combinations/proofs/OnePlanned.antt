@@ -24,7 +24,7 @@ use Rattle.log_queries.proofs.Readings.{last-end-link}
 use Rattle.plan_index.specs.declared.index.PlanIndex.{PlanIndex}
 use Rattle.plan_index.specs.Unmet.{unmet-by}
 use Rattle.plan_index.specs.Indexed.{Indexed}
-use Rattle.planner_event.specs.Events.{Moment, Ended, from-clock}
+use Rattle.planner_combination.specs.Events.{Moment, Ended, from-clock}
 use Rattle.planner_combination.proofs.Planned.{first-at, Plans, leads-planned}
 use Rattle.table_entries.specs.Logs.{numbered}
 use Rattle.planner_prefix.specs.Stored.{Kept}

@@ -29,7 +29,7 @@ use Rattle.log_queries.specs.Holding.{Row, absent, stands, Held}
 use Rattle.plan_index.specs.declared.index.PlanIndex.{PlanIndex}
 use Rattle.plan_index.specs.Unmet.{unmet-by}
 use Rattle.plan_index.specs.Indexed.{Indexed}
-use Rattle.planner_event.specs.Events.{Ended, from-clock}
+use Rattle.planner_combination.specs.Events.{Ended, from-clock}
 use Rattle.planner_combination.proofs.Standing.{At}
 use Rattle.table_entries.specs.Logs.{block, numbered, plan-of}
 use Rattle.planner_prefix.specs.Stored.{Kept}

@@ -9,7 +9,7 @@ use lib.ListN.{length, length-replicate}
 use Rattle.model.specs.Plan.{Lines}
 use Rattle.plan_index.specs.declared.index.PlanIndex.{PlanIndex}
 use Rattle.plan_index.specs.Indexed.{Indexed}
-use Rattle.planner_event.specs.Events.{from-clock}
+use Rattle.planner_combination.specs.Events.{from-clock}
 use Rattle.planner_combination.proofs.EventRuns.{fits-read, begins-read, ended-read}
 use Rattle.planner_combinations.proofs.Fitting.{fits, begins-ready}
 use Rattle.planner_combinations.proofs.OnePlanned.{ready-start, ready-long, passes-few, combination-of}

@@ -15,7 +15,7 @@ use Rattle.plan.specs.Memory.{lines}
 use Rattle.plan.specs.Tests.{at}
 use Rattle.plan.proofs.TestsOnLines.{Few, few, counts-same, deciders-same}
 use Rattle.plan.proofs.RefusalOrder.{from-3, from-4, from-5, from-6, from-7, from-8, from-9, stops, goes-on, first-stops, first-goes-on}
-use Rattle.plan_tests.proofs.Below.{ends-below}
+use Rattle.plan.proofs.Below.{ends-below}
 use Rattle.plan_refusals.proofs.TestsKnown.{Known, sizes, nodes, ends, twins, whens, messages}
 use Rattle.plan_refusals.proofs.sentences.refuse.Statement.{statement}
 use Rattle.plan_refusals.proofs.sentences.refuse.Tie as tie
