@@ -1,7 +1,7 @@
 //! Calls into our own archive, for tests that compare it with the reference, and what these tests
 //! share.
 //!
-//! The build script looks for `target/staticlib/libcapi.a` two folders up and sets `have_archive`.
+//! The build script looks for `target/staticlib/libc_interface.a` two folders up and sets `have_archive`.
 //! Without the archive this crate is empty and the tests in `tests/` do not exist.
 
 #[cfg(have_archive)]
