@@ -6,10 +6,12 @@ use kernel::Found;
 use kernel::RowNodes;
 use kernel::entry_fits;
 ghost use mathlib.Core.Path.{_≡_};
+ghost use Prim.Native.Nat.{_≤_};
 ghost use lib.ListN.{drop};
+ghost use Rattle.limits.specs.Limits.{ROWS};
 ghost use Rattle.model.specs.Table.{entries-of};
 ghost use Rattle.model.specs.Firmware.{words-of};
-ghost use Rattle.kernel.specs.Finding.{found-of, fits-by, find-by, Small};
+ghost use Rattle.kernel.specs.Finding.{found-of, fits-by, find-by};
 
 // The first entry from number `first` on that is of a node at a tick and whose column is met by what is heard. `b`
 // tells the node of each row.
@@ -22,8 +24,8 @@ pub(crate) fn first_fitting(
     heard: u32,
     told: u32,
 ) -> Found
-    requires { ⌜ Small b ⌝ }
-    ensures { λ r. ⌜ r ≡ found-of (find-by (fits-by b node tick heard told)
+    requires { ⌜ b .rows ≤ ROWS ⌝ }
+    ensures { λ r. ⌜ r ≡ found-of (find-by (fits-by (b .node) (b .rows) node tick heard told)
         (drop first (entries-of (words-of (now (bytes .entry))))) first) ⌝ }
 {
     let n = how_many(bytes) / 5;
@@ -32,20 +34,7 @@ pub(crate) fn first_fitting(
         let at = i * 5;
         if word_at(bytes, at + 3) == tick {
             let five = entry_of(bytes, at);
-            if entry_fits(
-                &five,
-                0,
-                &b.from,
-                &b.decider,
-                &b.nodes,
-                b.processes,
-                b.conditionrow,
-                b.rows,
-                node,
-                tick,
-                heard,
-                told,
-            ) {
+            if entry_fits(&five, 0, &b.node, b.rows, node, tick, heard, told) {
                 return Found::Entry(i);
             }
         }

@@ -2,5 +2,5 @@
 pub mod ColumnBits
 -- Laws of the search: SearchTurns (the test of an entry, and the turns of the search).
 pub mod SearchTurns
--- Laws of the lookup: NodesOfModel (the node of a row in a plan's arrays, and so the search over them, is the model's).
+-- Laws of the lookup: NodesOfModel (the node that is read for a row, and so the search, is the model's).
 pub mod NodesOfModel

@@ -20,7 +20,7 @@ use Rattle.c_lookup.proofs.search.first_fitting.Tie as tie
 
 abbrev Inv-loop : tie.InvT-loop
 Inv-loop bytes first node tick heard told b n i₀ i =
-    let test = fits-by b node tick heard told in
+    let test = fits-by (b .node) (b .rows) node tick heard told in
     find-by test (drop first (entries-of (words-of bytes))) first ≡ find-by test (drop i (entries-of (words-of bytes))) i
 
 abbrev μ-loop : tie.MeasureT-loop
@@ -36,7 +36,7 @@ loop-holds c = refl
 abbrev test : tie.At-loop Inv-loop μ-loop → Entry → Bool
 test l =
     let a = l .before .before .before .args in
-    fits-by (a .t3) (a .node) (a .tick) (a .heard) (a .told)
+    fits-by (a .t3 .node) (a .t3 .rows) (a .node) (a .tick) (a .heard) (a .told)
 
 -- the words of the table
 abbrev table : tie.At-loop Inv-loop μ-loop → List ℕ
@@ -69,7 +69,7 @@ entry-fits-requires c κs = search needs
 
 returns : tie.Need-returns Inv-loop μ-loop
 returns c =
-    let five = c .before .before .before .before .before .before .before in
+    let five = c .before .before .before .before .before in
     let k = five .before .before .before in
     let l = k .before in
     let same = entry-copied (table l) (l .loop .i * 5) (five .entry-of .ensures) in
@@ -88,8 +88,8 @@ loop-again c =
     let a = l .before .before .before .args in
     let fails : test l (entry-at (table l) (l .loop .i)) ≡ false =
     ⊎-elim
-    (λ w. sym (ap (test l) (entry-copied (table l) (l .loop .i * 5) (w .1 .ensures))) ∙ sym (w .7 .ensures) ∙ w .8 .left)
-    (λ w. other-tick (a .t3) (a .node) (a .tick) (a .heard) (a .told) (entry-at (table l) (l .loop .i)) (λ q. w .left (c .before .word-at .ensures ∙ q)))
+    (λ w. sym (ap (test l) (entry-copied (table l) (l .loop .i * 5) (w .1 .ensures))) ∙ sym (w .5 .ensures) ∙ w .6 .left)
+    (λ w. other-tick (a .t3 .node) (a .t3 .rows) (a .node) (a .tick) (a .heard) (a .told) (entry-at (table l) (l .loop .i)) (λ q. w .left (c .before .word-at .ensures ∙ q)))
     (c .if1 .came) in
     l .loop .inv ∙ search-next (test l) (table l) (l .loop .i) (within k) fails
 

@@ -7,16 +7,11 @@ use borrow.Author.Needs.{needs}
 use Rattle.model.specs.Table.{Entry}
 use Rattle.plan.specs.Tests.{at}
 use Rattle.kernel_rows.specs.Entries.{entry-at}
-use Rattle.kernel.specs.declared.nodes.RowNodes.{RowNodes}
-use Rattle.kernel.specs.Finding.{process-of-row, row-nodes, process-by}
-use Rattle.kernel.proofs.SearchTurns.{other-tick, no-row, other-node, by-column, process-below}
+use Rattle.kernel.proofs.SearchTurns.{other-tick, no-row, other-node, by-column}
 use Rattle.kernel.proofs.search.entry_fits.Statement.{statement}
 use Rattle.kernel.proofs.search.entry_fits.Tie as tie
 
--- what is asked of the plan, and the entry
-abbrev plan : tie.Start → RowNodes
-plan s = let a = s .args in row-nodes (a .from .now) (a .decider .now) (a .nodes .now) (a .processes) (a .conditionrow) (a .rows)
-
+-- the entry
 abbrev entry : tie.Start → Entry
 entry s = entry-at (s .args .table .now) (s .args .i)
 
@@ -36,7 +31,7 @@ returns : tie.Need-returns
 returns c =
     let s = c .before .before .before in
     let a = s .args in
-    sym (other-tick (plan s) (a .node) (a .tick) (a .heard) (a .told) (entry s) (c .if1 .taken))
+    sym (other-tick (a .nodes .now) (a .rows) (a .node) (a .tick) (a .heard) (a .told) (entry s) (c .if1 .taken))
 
 mul-wide : tie.Need-mul-wide
 mul-wide c = search needs
@@ -55,37 +50,24 @@ returns-2 : tie.Need-returns-2
 returns-2 c =
     let s = start (c .before) in
     let a = s .args in
-    sym (no-row (plan s) (a .node) (a .tick) (a .heard) (a .told) (entry s) (omega (arith, c .before .wide .ensures, c .if2 .taken)))
+    sym (no-row (a .nodes .now) (a .rows) (a .node) (a .tick) (a .heard) (a .told) (entry s) (omega (arith, c .before .wide .ensures, c .if2 .taken)))
 
-row-process-requires : tie.Need-row-process-requires
-row-process-requires c κs = search needs
-
--- there is such a row, and the process is the row's
-within : (c : tie.Else2) → entry (start (c .before)) .row < plan (start (c .before)) .rows
+-- there is such a row
+within : (c : tie.Else2) → entry (start (c .before)) .row < start (c .before) .args .rows
 within c = omega (arith, c .before .wide .ensures, c .if2 .left)
 
-told : (c : tie.After-row-process) → let s = start (c .before .before) in c .row-process .result ≡ process-by (plan s) (entry s .row)
-told c =
-    let a = start (c .before .before) .args in
-    c .row-process .ensures ∙ ap (process-of-row (a .from .now) (a .decider .now) (a .processes) (a .conditionrow)) (c .before .before .wide .ensures)
-
-below : (c : tie.After-row-process) → c .row-process .result < 64
-below c =
-    let s = start (c .before .before) in
-    omega (arith, told c, process-below (plan s) (entry s .row) (s .pre .1) (within (c .before)))
-
 mul-if3 : tie.Need-mul-if3
-mul-if3 c = omega (arith, below c)
+mul-if3 c = search needs
 
 element-copy-out-if3 : tie.Need-element-copy-out-if3
-element-copy-out-if3 c = omega (arith, below c)
+element-copy-out-if3 c = search needs
 
 returns-3 : tie.Need-returns-3
 returns-3 c =
-    let r = c .before .before in
-    let s = start (r .before .before) in
+    let w = c .before .before .before in
+    let s = start w in
     let a = s .args in
-    sym (other-node (plan s) (a .node) (a .tick) (a .heard) (a .told) (entry s) (λ q. c .if3 .taken (ap (at (a .nodes .now)) (told r) ∙ q)))
+    sym (other-node (a .nodes .now) (a .rows) (a .node) (a .tick) (a .heard) (a .told) (entry s) (λ q. c .if3 .taken (ap (at (a .nodes .now)) (w .wide .ensures) ∙ q)))
 
 add-column-met : tie.Need-add-column-met
 add-column-met c = search needs
@@ -111,12 +93,11 @@ column-met-requires c κs = search needs
 returns-4 : tie.Need-returns-4
 returns-4 c =
     let f = c .before .before .before in
-    let r = f .before .before in
-    let w = r .before .before in
+    let w = f .before .before .before in
     let s = start w in
     let a = s .args in
     c .column-met .ensures
-    ∙ sym (by-column (plan s) (a .node) (a .tick) (a .heard) (a .told) (entry s) (w .before .before .if1 .left) (within (r .before)) (sym (ap (at (a .nodes .now)) (told r)) ∙ f .if3 .left))
+    ∙ sym (by-column (a .nodes .now) (a .rows) (a .node) (a .tick) (a .heard) (a .told) (entry s) (w .before .before .if1 .left) (within (f .before .before)) (sym (ap (at (a .nodes .now)) (w .wide .ensures)) ∙ f .if3 .left))
 
 pub entry-fits-spec : {M : Type 1} → statement M
 entry-fits-spec =
@@ -131,7 +112,6 @@ entry-fits-spec =
     shared-slice-read-wide
     wide-requires
     returns-2
-    row-process-requires
     mul-if3
     element-copy-out-if3
     returns-3

@@ -13,7 +13,7 @@ use Rattle.kernel.proofs.search.first_fitting.Tie as tie
 
 abbrev Inv-loop : tie.InvT-loop
 Inv-loop table first node tick heard told b n i₀ i =
-    let test = fits-by b node tick heard told in
+    let test = fits-by (b .node) (b .rows) node tick heard told in
     find-by test (drop first (entries-of table)) first ≡ find-by test (drop i (entries-of table)) i
 
 abbrev μ-loop : tie.MeasureT-loop
@@ -26,14 +26,14 @@ loop-holds c = refl
 abbrev test : tie.At-loop Inv-loop μ-loop → Entry → Bool
 test l =
     let a = l .before .before .args in
-    fits-by (a .t3) (a .node) (a .tick) (a .heard) (a .told)
+    fits-by (a .t3 .node) (a .t3 .rows) (a .node) (a .tick) (a .heard) (a .told)
 
 entry-fits-requires : tie.Need-entry-fits-requires Inv-loop μ-loop
 entry-fits-requires c κs = search needs
 
 returns : tie.Need-returns Inv-loop μ-loop
 returns c =
-    let k = c .before .before .before .before .before .before in
+    let k = c .before .before .before .before in
     let l = k .before in
     let t = l .before .before .args .table .now in
     sym (ap found-of (l .loop .inv ∙ search-found (test l) t (l .loop .i) (k .loop-test .taken) (sym (c .before .entry-fits .ensures) ∙ c .if1 .taken)))
@@ -46,7 +46,7 @@ loop-less c = search needs
 
 loop-again : tie.Need-loop-again Inv-loop μ-loop
 loop-again c =
-    let k = c .before .before .before .before .before .before in
+    let k = c .before .before .before .before in
     let l = k .before in
     let t = l .before .before .args .table .now in
     l .loop .inv ∙ search-next (test l) t (l .loop .i) (k .loop-test .taken) (sym (c .before .entry-fits .ensures) ∙ c .if1 .left)

@@ -27,7 +27,7 @@ returns c =
     sym (ap found-of (is-refused (a .p) (a .table .now) (a .node) (a .tick) (a .heard) (a .values) (a .first) _ (sym (r .refuse .ensures) ∙ ap refusal-of (c .before .refusal .given .1))))
 
 returns-2 : tie.Need-returns-2
-returns-2 c = search needs
+returns-2 c = c .found-in .ensures
 
 pub lookup-spec : {M : Type 1} → statement M
 lookup-spec =
