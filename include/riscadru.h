@@ -50,12 +50,14 @@ uint64_t riscadru_copy_plan(const uint8_t *text, size_t text_length, uint8_t *ou
 uint64_t riscadru_plan_table(const uint8_t *text, size_t text_length, uint8_t *table, size_t table_length,
                              uint8_t *frames, size_t frames_length, uint8_t *totals, size_t totals_length);
 
-/* Writes what the planning program prints for a plan text, to the front of `out`: the listing, or
- * `(refused N)` and a line feed, with N from 1 to 11. The program lends 3,000 entries and 2,000
- * frames.
+/* Reads a plan text, plans it, and writes its listing, as the planning program prints it, to the front
+ * of `out`: worst delay, pass-over count, start table and frame list.
  *
- * Answer: how many bytes were written, and `out` is otherwise as it was. Or refusal 10, the printed
- * bytes are more than lent, and `out` is as it was.
+ * Answer: how many bytes were written, and `out` is otherwise as it was. Or the first refusal that
+ * applies, and `out` is as it was: 1, the text exceeds 16,384 bytes or is not of the form; 2 to 9, the
+ * plan breaks that rule first; 10, the start table has more than 3,000 entries, or the listing needs more
+ * bytes than lent; 11, the frame list has more than 2,000 frames. 426,100 bytes suffice for every listing
+ * of at most 3,000 entries.
  */
 uint64_t riscadru_plan_listing(const uint8_t *text, size_t text_length, uint8_t *out, size_t out_length);
 

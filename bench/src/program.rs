@@ -62,6 +62,7 @@ impl Program {
 mod tests {
     use super::*;
     use generate::broken::{broken, NUMBERS};
+    use generate::frames::with_frames;
     use generate::texts::damaged_texts;
     use generate::{plan, Kind, Random};
     use reference::print;
@@ -83,6 +84,9 @@ mod tests {
             let (ours, expected) = (program.listing(text), reference::program(text));
             assert!(ours == expected, "{}", String::from_utf8_lossy(text));
         };
+        for (frames, entries) in [(2_000, 3_000), (2_001, 3_000), (2_001, 3_001)] {
+            same(&print(&with_frames(frames, entries, &mut Random::new(1))));
+        }
         for (kind, count) in COUNTS {
             for number in 0..count {
                 let mut random = Random::new((kind as u64) << 32 | number);

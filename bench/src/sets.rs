@@ -283,8 +283,9 @@ mod ours {
         ];
         assert_eq!(totals[..], bytes(&four));
         let mut out = vec![0; LONGEST_LISTING];
-        let length = plan_listing(&input.text, &mut out) as usize;
-        assert!(out.get(..length) == Some(&reference::program(&input.text)[..]));
+        let listing = reference::list_plan(&input.text, out.len()).expect("a listing");
+        assert_eq!(plan_listing(&input.text, &mut out), listing.len() as u64);
+        assert!(out.starts_with(&listing));
     }
 }
 

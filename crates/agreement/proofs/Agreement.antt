@@ -8,13 +8,13 @@ use Rattle.model.specs.Table.{plan-answer, table-after}
 use Rattle.model.specs.Checking.{check}
 use Rattle.plan.specs.declared.Plan.{Plan}
 use Rattle.plan.specs.Memory.{lines}
-use Rattle.planner.specs.declared.Made.{Made}
-use Rattle.planner.specs.declared.Planned.the-variants as planned
-use Rattle.planner.specs.Planner as planner
-use Rattle.planner.proofs.PlannedSound.{given-sound}
-use Rattle.checker.specs.declared.verdict.Checked.the-variants.{Accepted}
-use Rattle.checker.specs.Verdict.{answer-of}
-use Rattle.checker.proofs.AcceptedSound.{accepted-sound}
+use Rattle.planner_table.specs.declared.Made.{Made}
+use Rattle.planner_table.specs.declared.Planned.the-variants as planned
+use Rattle.planner_table.specs.Planner as planner
+use Rattle.planner_table.proofs.PlannedSound.{given-sound}
+use Rattle.checker_table.specs.declared.verdict.Checked.the-variants.{Accepted}
+use Rattle.checker_table.specs.Verdict.{answer-of}
+use Rattle.checker_table.proofs.AcceptedSound.{accepted-sound}
 
 -- For every plan in memory and all words lent: where the planner's answer is `Made(m)`, the checker's answer to the
 -- first `m.words` words that stand in the table afterwards, with the delay `m.delay` stated, is `Accepted`.

@@ -1,6 +1,7 @@
--- For a plan in which refusals 2 to 9 find nothing, the timetable of its arrays is that of its lines.
+-- For a plan in which refusals 2 to 9 find nothing, the timetable of its arrays is that of its lines; and what this
+-- says of its bus.
 -- Assumes nothing.
-use mathlib.Core.Path.{_≡_, refl, ap, _∙_}
+use mathlib.Core.Path.{_≡_, refl, sym, ap, _∙_}
 use mathlib.Core.Bool.{Bool, true, false}
 use mathlib.Core.List.{List, [], _∷_, map, List·Memᴰ as In, List·Memᴰ·head as here, List·Memᴰ·tail as there}
 use Prim.Native.Nat.{ℕ, _+_, _*_, _≤_, _<_}
@@ -9,23 +10,23 @@ use native.Mathlib.Omega.{arith}
 use lib.Dec.{eqb}
 use lib.ListN.{length, getD}
 use borrow.Author.Tests.{ltb-false, leb-false, ne-eqb}
+use Rattle.limits.specs.Limits.{ROUNDTICKS}
 use Rattle.lists.specs.Lists.{if_then_else_, sum, below, fill}
 use Rattle.lists.proofs.Tests.{neither}
 use Rattle.lists.proofs.Members.{none-in, in-getD}
 use Rattle.lists.proofs.Places.{list-below}
 use Rattle.lists.proofs.Fill.{fill-at}
 use Rattle.model.specs.Plan.{Lines, Slot}
-use Rattle.model.specs.Bus.{slot-ticks, round, offset-among, offset, first-beginning}
+use Rattle.model.specs.Bus.{slot-ticks, round, slot-of, offset-among, offset}
 use Rattle.model.specs.Refusals.{outside, nothing, wrong-counts, wrong-sizes, no-node, wrong-nodes, plan-refusal}
 use Rattle.laws.proofs.Good.{Good, pass, good}
 use Rattle.laws.proofs.Slots.{slot-ticks-one, slot-in-round}
 use Rattle.plan.specs.declared.Plan.{Plan}
 use Rattle.plan.specs.Memory.{lines}
 use Rattle.plan.specs.Tables.{slots-table}
-use Rattle.plan.specs.Tests.{slot-bytes}
 use Rattle.plan.proofs.TestsOnLines.{Few, few, counts-same, slots-length, slot-node, slot-room, room-same}
 use Rattle.bus_timetable.specs.declared.Timetable.{Timetable}
-use Rattle.bus_timetable.specs.Bus.{beginning-at, ticks-before, Small, table-of, Timed}
+use Rattle.bus_timetable.specs.Bus.{ticks-before, Small, table-of, timetable}
 
 abbrev none : Slot
 none = record { node = 0; bytes = 0 }
@@ -66,12 +67,6 @@ module _ (p : Plan) (h : plan-refusal (lines p) ≡ nothing) where
   unfolding plan-refusal
   fits = few p (counts-same p ∙ pass 2 _ _ h .0)
 
-  some-slot : 1 ≤ length (lines p .slots)
-  unfolding plan-refusal wrong-counts outside
-  some-slot =
-      let a = neither _ _ (neither _ _ (neither _ _ (pass 2 _ _ h .0) .0) .0) in
-      ltb-false (length (lines p .slots)) 1 (neither _ _ (a .0) .0)
-
   node-below : (s : Slot) → In s (lines p .slots) → s .node < 8
   unfolding plan-refusal wrong-nodes no-node
   node-below s m =
@@ -107,32 +102,51 @@ module _ (p : Plan) (h : plan-refusal (lines p) ≡ nothing) where
   unfolding offset
   before-same n = before-among n (below (p .slots)) ∙ ap (λ (ss : List Slot). offset-among (lines p) ss n) (list-below none (lines p .slots) (p .slots) (slots-length p))
 
-  pub timed : Timed (lines p) (table-of (p .byte) (slots-table p .node) (slots-table p .bytes) (p .slots))
-  unfolding table-of slot-ticks offset
-  timed =
-      let rounds : ticks-before (p .byte) (slots-table p .node) (slots-table p .bytes) 8 (below (p .slots)) ≡ round (lines p) =
-      before-same 8 ∙ before-all (lines p) 8 (lines p .slots) node-below in
-      let within : (n : ℕ) → n < length (lines p .slots) → n < p .slots = λ n l. omega (arith, slots-length p) in
-      let offsets : (n : ℕ) → n < length (lines p .slots) → getD (fill 8 (λ n. ticks-before (p .byte) (slots-table p .node) (slots-table p .bytes) n (below (p .slots))) (p .slots)) n 0 ≡ offset (lines p) n =
-      λ n l. fill-at 8 (λ n. ticks-before (p .byte) (slots-table p .node) (slots-table p .bytes) n (below (p .slots))) (p .slots) n (fits .slots) (within n l) ∙ before-same n in
-      let m = in-getD (lines p .slots) 0 none some-slot in
-      let one = slot-ticks-one (lines p) kept (getD (lines p .slots) 0 none) m in
-      let least = slot-in-round (lines p) kept (getD (lines p .slots) 0 none) m in
+  rounds-same : ticks-before (p .byte) (slots-table p .node) (slots-table p .bytes) 8 (below (p .slots)) ≡ round (lines p)
+  unfolding offset
+  rounds-same = before-same 8 ∙ before-all (lines p) 8 (lines p .slots) node-below
+
+  pub timetable-same : table-of (p .byte) (slots-table p .node) (slots-table p .bytes) (p .slots) ≡ timetable (lines p)
+  unfolding table-of timetable slot-ticks
+  timetable-same = λ j.
       record {
-        rounds = rounds;
-        offsets = offsets;
-        lasts = λ n l.
-            fill-at 8 (λ n. slot-bytes (slots-table p .node) (slots-table p .bytes) n (below (p .slots)) * p .byte) (p .slots) n (fits .slots) (within n l)
-            ∙ (λ j. room-same p fits n j * byte-same j);
-        rooms = λ n l.
-            fill-at 8 (λ n. slot-bytes (slots-table p .node) (slots-table p .bytes) n (below (p .slots))) (p .slots) n (fits .slots) (within n l) ∙ room-same p fits n;
-        round-one = omega (arith, rounds, one, least);
-        round-most = omega (arith, rounds, round-most (lines p) kept);
-        offset-most = λ n l. omega (arith, rounds, offsets n l, before-most (lines p) n (lines p .slots));
+        round = rounds-same j;
+        offset = fill 8 (λ n. before-same n j) (sym (slots-length p) j);
+        ticks = fill 8 (λ n. room-same p fits n j * byte-same j) (sym (slots-length p) j);
+        bytes = fill 8 (λ n. room-same p fits n j) (sym (slots-length p) j);
       }
 
--- The slot search on a timetable's numbers is the model's.
-pub first-of : {p : Lines} {t : Timetable} → Timed p t → (n : ℕ) → n < length (p .slots) → (u : ℕ) →
-    beginning-at (t .round) (getD (t .offset) n 0) u ≡ first-beginning p n u
-unfolding beginning-at first-beginning
-first-of w n l u = λ j. beginning-at (w .rounds j) (w .offsets n l j) u
+-- What a timetable says of a plan's bus, number by number.
+pub record Timed (p : Lines) (t : Timetable) : Type 0 where
+  pub rounds : t .round ≡ round p
+  pub offsets : (n : ℕ) → n < length (p .slots) → getD (t .offset) n 0 ≡ offset p n
+  pub lasts : (n : ℕ) → n < length (p .slots) → getD (t .ticks) n 0 ≡ slot-ticks p (slot-of p n)
+  pub rooms : (n : ℕ) → n < length (p .slots) → getD (t .bytes) n 0 ≡ slot-of p n .bytes
+  pub round-one : 1 ≤ t .round
+  pub round-most : t .round ≤ ROUNDTICKS
+  pub offset-most : (n : ℕ) → n < length (p .slots) → getD (t .offset) n 0 ≤ t .round
+
+module _ (p : Lines) (h : plan-refusal p ≡ nothing) where
+  pub some-slot : 1 ≤ length (p .slots)
+  unfolding plan-refusal wrong-counts outside
+  some-slot =
+      let a = neither _ _ (neither _ _ (neither _ _ (pass 2 _ _ h .0) .0) .0) in
+      ltb-false (length (p .slots)) 1 (neither _ _ (a .0) .0)
+
+  pub timed : Timed p (timetable p)
+  unfolding timetable offset
+  timed =
+      let g = good p h in
+      let few = g .few-slots in
+      let m = in-getD (p .slots) 0 none some-slot in
+      let one = slot-ticks-one p g (getD (p .slots) 0 none) m in
+      let least = slot-in-round p g (getD (p .slots) 0 none) m in
+      record {
+        rounds = refl;
+        offsets = λ n l. fill-at 8 (offset p) (length (p .slots)) n few l;
+        lasts = λ n l. fill-at 8 (λ n. slot-ticks p (slot-of p n)) (length (p .slots)) n few l;
+        rooms = λ n l. fill-at 8 (λ n. slot-of p n .bytes) (length (p .slots)) n few l;
+        round-one = omega (arith, one, least);
+        round-most = round-most p g;
+        offset-most = λ n l. omega (arith, fill-at 8 (offset p) (length (p .slots)) n few l, before-most p n (p .slots));
+      }

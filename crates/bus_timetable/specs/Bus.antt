@@ -1,12 +1,11 @@
--- The bus of a plan as arrays of numbers by node: what the arrays of slots give, and what a timetable says of a plan's
--- lines.
+-- The bus of a plan as arrays of numbers by node: what the arrays of slots give, and the timetable of a plan's lines.
 -- Assumes nothing.
 use mathlib.Core.Path.{_≡_}
 use mathlib.Core.List.{List, [], _∷_}
 use Prim.Native.Nat.{ℕ, _+_, _-_, _*_, _%_, _≤_, _<_}
 use lib.Dec.{eqb, leb}
 use lib.ListN.{length, getD}
-use Rattle.limits.specs.Limits.{ROUNDTICKS}
+use Rattle.limits.specs.Limits.{NODES}
 use Rattle.lists.specs.Lists.{if_then_else_, below, fill}
 use Rattle.model.specs.Plan.{Lines}
 use Rattle.model.specs.Bus.{slot-ticks, round, slot-of, offset}
@@ -47,12 +46,12 @@ table-of byte slot bytes slots =
       bytes = fill 8 (λ n. slot-bytes slot bytes n (below slots)) slots;
     }
 
--- a timetable is that of a plan's bus
-pub record Timed (p : Lines) (t : Timetable) : Type 0 where
-  pub rounds : t .round ≡ round p
-  pub offsets : (n : ℕ) → n < length (p .slots) → getD (t .offset) n 0 ≡ offset p n
-  pub lasts : (n : ℕ) → n < length (p .slots) → getD (t .ticks) n 0 ≡ slot-ticks p (slot-of p n)
-  pub rooms : (n : ℕ) → n < length (p .slots) → getD (t .bytes) n 0 ≡ slot-of p n .bytes
-  pub round-one : 1 ≤ t .round
-  pub round-most : t .round ≤ ROUNDTICKS
-  pub offset-most : (n : ℕ) → n < length (p .slots) → getD (t .offset) n 0 ≤ t .round
+-- the timetable of a plan's bus
+unfoldable pub timetable : Lines → Timetable
+timetable p =
+    record {
+      round = round p;
+      offset = fill NODES (offset p) (length (p .slots));
+      ticks = fill NODES (λ n. slot-ticks p (slot-of p n)) (length (p .slots));
+      bytes = fill NODES (λ n. slot-of p n .bytes) (length (p .slots));
+    }

@@ -9,7 +9,7 @@ ghost use mathlib.Core.Path.{_≡_};
 ghost use Prim.Native.Nat.{_<_};
 ghost use Rattle.model.specs.Refusals.{nothing, plan-refusal};
 ghost use Rattle.plan.specs.Memory.{lines};
-ghost use Rattle.bus_timetable.specs.Bus.{beginning-at, Small, Placed, table-of, Timed};
+ghost use Rattle.bus_timetable.specs.Bus.{beginning-at, Small, Placed, table-of, timetable};
 
 // The ticks of a round and, by node, the ticks from its beginning to the node's slot, the slot's ticks and its bytes.
 pub struct Timetable {
@@ -101,7 +101,7 @@ fn of_slots<'a>(
 // The timetable of a plan.
 pub fn of_plan(p: Plan) -> Timetable
     requires { ⌜ plan-refusal (lines p) ≡ nothing ⌝ }
-    ensures { λ r. ⌜ Timed (lines p) r ⌝ }
+    ensures { λ r. ⌜ r ≡ timetable (lines p) ⌝ }
 {
     let s = slot_table(p);
     of_slots(&s.node, &s.bytes, p.slots, p.byte)

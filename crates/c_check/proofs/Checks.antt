@@ -13,8 +13,8 @@ use Rattle.plan_refusals.specs.declared.sentences.Refusal.the-variants.{Nothing
 use Rattle.text_reader.specs.Answer.{reading-of}
 use Rattle.text_reader.specs.declared.reader.Read.{Read}
 use Rattle.text_reader.proofs.ReadCases.{told-refused, told-read}
-use Rattle.checker.specs.declared.verdict.Checked.{Checked}
-use Rattle.checker.specs.Verdict.{answer-of}
+use Rattle.checker_table.specs.declared.verdict.Checked.{Checked}
+use Rattle.checker_table.specs.Verdict.{answer-of}
 use Rattle.c_check.specs.Checks.{checked-of, checked-number, checked-answer, Checks}
 
 same-number : (x : m.Refusal) → checked-answer (answer-of x) ≡ checked-number x

@@ -13,8 +13,8 @@ use Rattle.model.specs.Refusals.{nothing, plan-refusal}
 use Rattle.model.specs.Table.{entries-of}
 use Rattle.model.specs.Checking.{ill-formed, table-refusal}
 use Rattle.laws.proofs.Counting.{too-many}
-use Rattle.checker.specs.declared.verdict.Checked.the-variants.{Refused}
-use Rattle.checker.specs.Verdict.{answer-of}
+use Rattle.checker_table.specs.declared.verdict.Checked.the-variants.{Refused}
+use Rattle.checker_table.specs.Verdict.{answer-of}
 
 -- five words an entry
 entries-count : (words : List ℕ) → length (entries-of words) ≡ length words / 5

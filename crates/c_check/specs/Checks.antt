@@ -7,8 +7,8 @@ use Rattle.model.specs.Refusals.{Refusal, nothing, refused}
 use Rattle.model.specs.Text.{Reading, reads, not-read, Answers-text}
 use Rattle.model.specs.Firmware.{words-of}
 use Rattle.model.specs.Checking.{table-refusal}
-use Rattle.checker.specs.declared.verdict.Checked.{Checked}
-use Rattle.checker.specs.declared.verdict.Checked.the-variants.{Accepted, Refused}
+use Rattle.checker_table.specs.declared.verdict.Checked.{Checked}
+use Rattle.checker_table.specs.declared.verdict.Checked.the-variants.{Accepted, Refused}
 
 -- the first refusal: of the text, or of the table whose bytes are lent and the delay stated for it
 unfoldable pub checked-of : Reading → List ℕ → ℕ → Refusal

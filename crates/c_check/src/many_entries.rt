@@ -1,8 +1,8 @@
 // Checks a table of more than 12,672 entries, one for each row and combination, lent as bytes: refusal 13, or else 14.
 use bitset::combinations_of;
 use c_words::entry_of;
-use checker::Checked;
 use checker_rules::ill_formed;
+use checker_table::Checked;
 use limits::EDGES;
 use plan::Plan;
 use plan_index::of_plan;
@@ -17,7 +17,7 @@ ghost use Rattle.model.specs.Table.{entries-of};
 ghost use Rattle.model.specs.Checking.{table-refusal};
 ghost use Rattle.plan.specs.Memory.{lines};
 ghost use Rattle.checker_rows.specs.MetRows.{entry-from};
-ghost use Rattle.checker.specs.Verdict.{answer-of};
+ghost use Rattle.checker_table.specs.Verdict.{answer-of};
 ghost use Rattle.checker_rules.specs.EntryForm.{ill-formed-by};
 
 // Whether refusal 13 applies to the entry whose five words begin at word `at` of the bytes.

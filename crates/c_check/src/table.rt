@@ -4,8 +4,8 @@
 use crate::many_entries::check_many;
 use c_words::entry_words;
 use c_words::read_words;
-use checker::Checked;
-use checker::check_words;
+use checker_table::Checked;
+use checker_table::check_words;
 use limits::TABLEWORDS;
 use plan::Plan;
 ghost use mathlib.Core.Path.{_≡_};
@@ -16,7 +16,7 @@ ghost use Rattle.model.specs.Firmware.{words-of};
 ghost use Rattle.model.specs.Refusals.{nothing, plan-refusal};
 ghost use Rattle.model.specs.Checking.{table-refusal};
 ghost use Rattle.plan.specs.Memory.{lines};
-ghost use Rattle.checker.specs.Verdict.{answer-of};
+ghost use Rattle.checker_table.specs.Verdict.{answer-of};
 
 // Checks a table of at most 12,672 entries: its n words are copied and checked.
 fn check_few(p: Plan, bytes: &[u8], n: usize, delay: u64) -> Checked

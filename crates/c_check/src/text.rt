@@ -1,7 +1,7 @@
 // A start table lent as bytes, checked for a plan text and answered as one number.
 use crate::table::check_bytes;
 use c_words::refused;
-use checker::Checked;
+use checker_table::Checked;
 use plan_refusals::Refusal;
 use text_reader::read_plan;
 ghost use mathlib.Core.Path.{_≡_};

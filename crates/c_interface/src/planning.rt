@@ -1,23 +1,25 @@
-// The planner over a plan text: what the planning program prints, and the table, the frame list and the totals as
-// bytes, words little-endian.
+// The planner over a plan text: the listing, and the table, the frame list and the totals as bytes, words
+// little-endian.
 use c_plan::Put;
 use c_plan::put_plan;
 use c_text::listed;
 use c_words::refused;
 use plan_refusals::Refusal;
-use program::print_plan;
+use program::list_plan;
 use text_reader::read_plan;
 ghost use mathlib.Core.Path.{_≡_};
 ghost use Rattle.c_text.specs.Listing.{Lists};
 ghost use Rattle.c_interface.specs.Tables.{Tables, put-answer};
 
-// Reads a plan text, plans it, and writes what the planning program prints for it to the front of the lent bytes: how
-// many bytes were written, or refusal 10 as 2^64 - 1 less 10, which leaves the lent bytes unchanged.
+// Reads a plan text, plans it, and writes its listing to the front of the lent bytes: how many bytes were written, or
+// the first refusal that applies as 2^64 - 1 less its number, which leaves the lent bytes unchanged. 1 to 9 are those
+// of the text; 10 is answered where the table has more than 3,000 entries, or the listing needs more bytes than lent;
+// then 11, where it has more than 2,000 frames.
 #[no_mangle]
 pub extern "C" fn riscadru_plan_listing(text: &[u8], out: &mut [u8]) -> u64
     ensures { λ r. ⌜ Lists (now (text .entry)) (now (out .entry)) (now (out .exit)) r ⌝ }
 {
-    listed(print_plan(text, out))
+    listed(list_plan(text, out))
 }
 
 // The number in which the answer for a plan put into lent bytes is given: how many bytes of the table were written, or

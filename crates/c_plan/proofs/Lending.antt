@@ -16,7 +16,7 @@ use Rattle.model.specs.Plan.{Lines}
 use Rattle.model.specs.Refusals.{Refusal, nothing, refused, sentence, or-else, plan-refusal}
 use Rattle.model.specs.Table.{Result, result, entry-words, frame-words, answered, room-refusal, plan-answer}
 use Rattle.model.specs.Firmware.{words-of}
-use Rattle.planner.proofs.Most.{entries-cap, frames-cap}
+use Rattle.planner_table.proofs.Most.{entries-cap, frames-cap}
 use Rattle.c_words.proofs.Reading.{words-count}
 
 -- the test for too few words is the same where no more are needed than the most

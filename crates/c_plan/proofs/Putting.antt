@@ -7,10 +7,10 @@ use Prim.Native.Nat.{ℕ, _*_}
 use lib.ListN.{length, take}
 use Rattle.lists.specs.Front.{front}
 use Rattle.model.specs.Table.{Answer, turned-down, made}
-use Rattle.planner.specs.declared.Made.{Made}
-use Rattle.planner.specs.declared.Planned.the-variants as answer
-use Rattle.planner.specs.Planner.{answer-of}
-use Rattle.planner.proofs.Given.{turned, Stands}
+use Rattle.planner_table.specs.declared.Made.{Made}
+use Rattle.planner_table.specs.declared.Planned.the-variants as answer
+use Rattle.planner_table.specs.Planner.{answer-of}
+use Rattle.planner_table.proofs.Given.{turned, Stands}
 use Rattle.c_words.specs.Bytes.{bytes-of}
 use Rattle.c_plan.specs.declared.table.Put.the-variants.{Wrote, Refused}
 use Rattle.c_plan.specs.Stored.{Stored}

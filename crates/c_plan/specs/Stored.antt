@@ -6,7 +6,7 @@ use mathlib.Core.List.{List, [], _∷_}
 use Prim.Native.Nat.{ℕ}
 use lib.ListN.{length, take}
 use Rattle.lists.specs.Front.{front}
-use Rattle.planner.specs.declared.Made.{Made}
+use Rattle.planner_table.specs.declared.Made.{Made}
 use Rattle.c_words.specs.Bytes.{bytes-of}
 
 -- what the planner made, at the front of some words, put into lent bytes

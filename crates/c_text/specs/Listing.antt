@@ -1,14 +1,13 @@
--- What the planning program prints for a text, in lent bytes: the number answered, and the lent bytes afterwards.
+-- The listing of a text's plan in lent bytes: the number answered, and the lent bytes afterwards.
 -- Assumes nothing.
 use Prim.Native.Nat.{ℕ, _-_}
 use mathlib.Core.Path.{_≡_}
 use mathlib.Core.List.{List}
 use lib.ListN.{length}
 use Rattle.model.specs.Text.{Reading, Answers-text, bytes-after}
-use Rattle.model.specs.Listing.{program-prints}
+use Rattle.model.specs.Listing.{list-reading}
 use Rattle.listing.specs.declared.writer.Listed.{Listed}
 use Rattle.listing.specs.declared.writer.Listed.the-variants.{Wrote, Refused}
-use Rattle.listing.specs.Answer.{written-of}
 use Rattle.c_words.specs.Numbers.{written-number}
 
 -- the number in which the listing's answer is given
@@ -19,5 +18,5 @@ listed-answer (Refused n) = 18446744073709551615 - n
 pub record Lists (text before after : List ℕ) (answer : ℕ) : Type 0 where
   pub reading : Reading
   pub of-text : Answers-text text reading
-  pub number : answer ≡ written-number (written-of (length before) (program-prints reading))
-  pub bytes : after ≡ bytes-after (written-of (length before) (program-prints reading)) before
+  pub number : answer ≡ written-number (list-reading reading (length before))
+  pub bytes : after ≡ bytes-after (list-reading reading (length before)) before

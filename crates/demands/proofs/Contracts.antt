@@ -1,13 +1,10 @@
--- What specs/One.antt and specs/Two.antt take of each function is what its contract in the code says, and the contract
--- asks nothing of a caller.
+-- What is known of a call of each function is what its contract in the code says, in the definitions that the `ensures`
+-- is written with; the code keeps these contracts, and they ask nothing of a caller.
 -- Assumes nothing.
 use Prim.Native.Nat.{ℕ, _*_}
 use mathlib.Core.Path.{_≡_}
-use lib.ListN.{length}
 use mathlib.Core.List.{List}
-use borrow.Fn.Kinds.{PK, RK, Dens, resT, endedOf, In, Out}
-use contract.Lifetimes.{Lfts}
-use denote.Triple.Clauses.{AtExit}
+use lib.ListN.{length}
 use Rattle.model.specs.Refusals.{plan-refusal}
 use Rattle.model.specs.Text.{Answers-text, write-plan, bytes-after}
 use Rattle.model.specs.Table.{plan-answer, table-after, frames-after}
@@ -15,148 +12,163 @@ use Rattle.model.specs.Listing.{words-listing, refused-line}
 use Rattle.model.specs.Checking.{check}
 use Rattle.model.specs.Lookup.{lookup, row-start, row-length, row-part}
 use Rattle.model.specs.Firmware.{words-of, Answers-lookup}
-use Rattle.plan.specs.Memory.{lines}
+use Rattle.plan.specs.declared.Plan.{Plan}
+use Rattle.plan.specs.Memory.{lines, empty-plan}
+use Rattle.plan_refusals.specs.declared.sentences.Refusal.{Refusal}
 use Rattle.plan_refusals.specs.Answer.{refusal-of}
+use Rattle.text_reader.specs.declared.reader.Read.{Read}
 use Rattle.text_reader.specs.Answer.{reading-of, Emptied}
+use Rattle.text_writer.specs.declared.writer.Written.{Written}
 use Rattle.text_writer.specs.Answer as writer
-use Rattle.planner.specs.Planner as planner
+use Rattle.planner_table.specs.declared.Planned.{Planned}
+use Rattle.planner_table.specs.Planner as planner
+use Rattle.listing.specs.declared.writer.Listed.{Listed}
 use Rattle.listing.specs.Answer as listing
-use Rattle.program.specs.Prints.{Prints}
-use Rattle.checker.specs.Verdict as checker
+use Rattle.program.specs.Listing.{Lists-plan}
+use Rattle.program.specs.Printing.{Prints}
+use Rattle.checker_table.specs.declared.verdict.Checked.{Checked}
+use Rattle.checker_table.specs.Verdict as checker
+use Rattle.kernel_rows.specs.Part.{words-on}
+use Rattle.kernel.specs.declared.search.Found.{Found}
 use Rattle.kernel.specs.Finding.{found-of}
 use Rattle.c_check.specs.Checks.{Checks}
 use Rattle.c_text.specs.Copy.{Copies}
 use Rattle.c_text.specs.Listing.{Lists}
 use Rattle.c_interface.specs.Tables.{Tables}
-use Rattle.plan_refusals.proofs.refuse.Reads as the-refuse
-use Rattle.plan_refusals.proofs.refuse.Kinds as the-refuse-kinds
-use Rattle.text_reader.proofs.read_plan.Reads as the-read
-use Rattle.text_reader.proofs.read_plan.Kinds as the-read-kinds
-use Rattle.text_writer.proofs.write_plan.Reads as the-write
-use Rattle.text_writer.proofs.write_plan.Kinds as the-write-kinds
-use Rattle.planner.proofs.plan_table.Reads as the-plan
-use Rattle.planner.proofs.plan_table.Kinds as the-plan-kinds
-use Rattle.listing.proofs.write_listing.Reads as the-list
-use Rattle.listing.proofs.write_listing.Kinds as the-list-kinds
-use Rattle.listing.proofs.write_refusal.Reads as the-list-refusal
-use Rattle.listing.proofs.write_refusal.Kinds as the-list-refusal-kinds
-use Rattle.program.proofs.print_plan.Reads as the-print
-use Rattle.program.proofs.print_plan.Kinds as the-print-kinds
-use Rattle.checker.proofs.check_table.Reads as the-check
-use Rattle.checker.proofs.check_table.Kinds as the-check-kinds
-use Rattle.kernel.proofs.lookup.Reads as the-lookup
-use Rattle.kernel.proofs.lookup.Kinds as the-lookup-kinds
-use Rattle.kernel_rows.proofs.row_entries.Reads as the-row
-use Rattle.kernel_rows.proofs.row_entries.Kinds as the-row-kinds
-use Rattle.c_interface.proofs.riscadru_copy_plan.Reads as the-c-copy
-use Rattle.c_interface.proofs.riscadru_copy_plan.Kinds as the-c-copy-kinds
-use Rattle.c_interface.proofs.riscadru_plan_table.Reads as the-c-plan
-use Rattle.c_interface.proofs.riscadru_plan_table.Kinds as the-c-plan-kinds
-use Rattle.c_interface.proofs.riscadru_plan_listing.Reads as the-c-print
-use Rattle.c_interface.proofs.riscadru_plan_listing.Kinds as the-c-print-kinds
-use Rattle.c_interface.proofs.riscadru_check_table.Reads as the-c-check
-use Rattle.c_interface.proofs.riscadru_check_table.Kinds as the-c-check-kinds
-use Rattle.c_interface.proofs.riscadru_lookup.Reads as the-c-lookup
-use Rattle.c_interface.proofs.riscadru_lookup.Kinds as the-c-lookup-kinds
-use Rattle.c_interface.proofs.riscadru_row_start.Reads as the-c-row-start
-use Rattle.c_interface.proofs.riscadru_row_start.Kinds as the-c-row-start-kinds
-use Rattle.c_interface.proofs.riscadru_row_length.Reads as the-c-row-length
-use Rattle.c_interface.proofs.riscadru_row_length.Kinds as the-c-row-length-kinds
+use Rattle.demands.specs.Calls.{Code-keeps, Asks-nothing}
+use Rattle.demands.specs.Calls as calls
+use Rattle.plan.proofs.empty.Met as empty-met
+use Rattle.plan_refusals.proofs.refuse.Met as refuse-met
+use Rattle.text_reader.proofs.read_plan.Met as read-plan-met
+use Rattle.text_writer.proofs.write_plan.Met as write-plan-met
+use Rattle.planner.proofs.plan_table.Met as plan-table-met
+use Rattle.listing.proofs.write_listing.Met as write-listing-met
+use Rattle.listing.proofs.write_refusal.Met as write-refusal-met
+use Rattle.program.proofs.list_plan.Met as list-plan-met
+use Rattle.program.proofs.print_all.Met as print-all-met
+use Rattle.checker.proofs.check_table.Met as check-table-met
+use Rattle.kernel_rows.proofs.row_entries.Met as row-entries-met
+use Rattle.kernel.proofs.lookup.Met as lookup-met
+use Rattle.c_interface.proofs.riscadru_copy_plan.Met as c-copy-plan-met
+use Rattle.c_interface.proofs.riscadru_plan_table.Met as c-plan-table-met
+use Rattle.c_interface.proofs.riscadru_plan_listing.Met as c-plan-listing-met
+use Rattle.c_interface.proofs.riscadru_check_table.Met as c-check-table-met
+use Rattle.c_interface.proofs.riscadru_lookup.Met as c-lookup-met
+use Rattle.c_interface.proofs.riscadru_row_start.Met as c-row-start-met
+use Rattle.c_interface.proofs.riscadru_row_length.Met as c-row-length-met
 
--- A function with parameters of the kinds `ps` and a result of the kind `r`. For the values `a` that a call is handed,
--- its result `z` and what is lent at its end `e`, `Learnt` is what a caller learns from the function's `ensures`, and
--- `Asked` what its `requires` asks of a caller.
-pub record Contract {n : ℕ} (ps : List (PK n)) (r : RK n) (Asked : In n ps) (Learnt Said : Out n ps r) : Type 0 where
-  pub asks-nothing : (κs : Lfts n) (a : Dens κs ps) → Asked κs a
-  pub says : (κs : Lfts n) (a : Dens κs ps) (z : resT r κs .Denot) (e : AtExit (endedOf n ps r) κs) → Learnt κs a z e → Said κs a z e
+pub empty-says : {p : Plan} → calls.Empty p → p ≡ empty-plan
+empty-says (calls.empty c) = c .learnt
 
--- `plan_refusals::refuse`
-pub refusing : Contract the-refuse-kinds.ps the-refuse-kinds.r the-refuse.Asked the-refuse.Learnt (λ κs a z e.
-    refusal-of z ≡ plan-refusal (lines (a .0)))
-refusing = record { asks-nothing = λ κs a. tt; says = λ κs a z e h. h }
+pub refuse-says : {p : Plan} {r : Refusal} → calls.Refuse p r → refusal-of r ≡ plan-refusal (lines p)
+refuse-says (calls.refuse c) = c .learnt
 
--- `text_reader::read_plan`
-pub reading : Contract the-read-kinds.ps the-read-kinds.r the-read.Asked the-read.Learnt (λ κs a z e.
-    (Answers-text (a .0 .now) (reading-of z))
-    × (Emptied z))
-reading = record { asks-nothing = λ κs a. tt; says = λ κs a z e h. (h .0, h .1) }
+pub read-plan-says : {text : List ℕ} {r : Read} → calls.Read-plan text r → Answers-text text (reading-of r) × Emptied r
+read-plan-says (calls.read-plan c) = (c .learnt .0, c .learnt .1)
 
--- `text_writer::write_plan`
-pub writing : Contract the-write-kinds.ps the-write-kinds.r the-write.Asked the-write.Learnt (λ κs a z e.
-    (z ≡ writer.answer-of (write-plan (lines (a .0)) (length (a .1 .0 .now))))
-    × (e .1 .0 .now ≡ bytes-after (write-plan (lines (a .0)) (length (a .1 .0 .now))) (a .1 .0 .now)))
-writing = record { asks-nothing = λ κs a. tt; says = λ κs a z e h. (h .0, h .1) }
+pub write-plan-says : {p : Plan} {out out-now : List ℕ} {r : Written} → calls.Write-plan p out out-now r →
+    (r ≡ writer.answer-of (write-plan (lines p) (length out))) × (out-now ≡ bytes-after (write-plan (lines p) (length out)) out)
+write-plan-says (calls.write-plan c) = (c .learnt .0, c .learnt .1)
 
--- `planner::plan_table`
-pub planning : Contract the-plan-kinds.ps the-plan-kinds.r the-plan.Asked the-plan.Learnt (λ κs a z e.
-    (z ≡ planner.answer-of (plan-answer (lines (a .0)) (length (a .1 .0 .now)) (length (a .1 .1 .0 .now))))
-    × (e .1 .0 .now ≡ table-after (plan-answer (lines (a .0)) (length (a .1 .0 .now)) (length (a .1 .1 .0 .now))) (a .1 .0 .now))
-    × (e .1 .1 .0 .now ≡ frames-after (plan-answer (lines (a .0)) (length (a .1 .0 .now)) (length (a .1 .1 .0 .now))) (a .1 .1 .0 .now)))
-planning = record { asks-nothing = λ κs a. tt; says = λ κs a z e h. (h .0, h .1 .0, h .1 .1) }
+pub plan-table-says : {p : Plan} {table frames table-now frames-now : List ℕ} {r : Planned} → calls.Plan-table p table frames table-now frames-now r →
+    (r ≡ planner.answer-of (plan-answer (lines p) (length table) (length frames)))
+    × (table-now ≡ table-after (plan-answer (lines p) (length table) (length frames)) table)
+    × (frames-now ≡ frames-after (plan-answer (lines p) (length table) (length frames)) frames)
+plan-table-says (calls.plan-table c) = (c .learnt .0, c .learnt .1 .0, c .learnt .1 .1)
 
--- `listing::write_listing`
-pub listing-words : Contract the-list-kinds.ps the-list-kinds.r the-list.Asked the-list.Learnt (λ κs a z e.
-    (z ≡ listing.answer-of (listing.written-of (length (a .1 .1 .1 .1 .1 .0 .now)) (words-listing (lines (a .0)) (a .1 .0) (a .1 .1 .0) (a .1 .1 .1 .0 .now) (a .1 .1 .1 .1 .0 .now))))
-    × (e .1 .1 .1 .1 .1 .0 .now ≡ bytes-after (listing.written-of (length (a .1 .1 .1 .1 .1 .0 .now)) (words-listing (lines (a .0)) (a .1 .0) (a .1 .1 .0) (a .1 .1 .1 .0 .now) (a .1 .1 .1 .1 .0 .now))) (a .1 .1 .1 .1 .1 .0 .now)))
-listing-words = record { asks-nothing = λ κs a. tt; says = λ κs a z e h. (h .0, h .1) }
+pub write-listing-says : {p : Plan} {delay passed : ℕ} {table frames out out-now : List ℕ} {r : Listed} → calls.Write-listing p delay passed table frames out out-now r →
+    (r ≡ listing.answer-of (listing.written-of (length out) (words-listing (lines p) delay passed table frames)))
+    × (out-now ≡ bytes-after (listing.written-of (length out) (words-listing (lines p) delay passed table frames)) out)
+write-listing-says (calls.write-listing c) = (c .learnt .0, c .learnt .1)
 
--- `listing::write_refusal`
-pub listing-refusal : Contract the-list-refusal-kinds.ps the-list-refusal-kinds.r the-list-refusal.Asked the-list-refusal.Learnt (λ κs a z e.
-    (z ≡ listing.answer-of (listing.written-of (length (a .1 .0 .now)) (refused-line (a .0))))
-    × (e .1 .0 .now ≡ bytes-after (listing.written-of (length (a .1 .0 .now)) (refused-line (a .0))) (a .1 .0 .now)))
-listing-refusal = record { asks-nothing = λ κs a. tt; says = λ κs a z e h. (h .0, h .1) }
+pub write-refusal-says : {number : ℕ} {out out-now : List ℕ} {r : Listed} → calls.Write-refusal number out out-now r →
+    (r ≡ listing.answer-of (listing.written-of (length out) (refused-line number))) × (out-now ≡ bytes-after (listing.written-of (length out) (refused-line number)) out)
+write-refusal-says (calls.write-refusal c) = (c .learnt .0, c .learnt .1)
 
--- `program::print_plan`
-pub printing : Contract the-print-kinds.ps the-print-kinds.r the-print.Asked the-print.Learnt (λ κs a z e.
-    Prints (a .0 .now) (a .1 .0 .now) (e .1 .0 .now) z)
-printing = record { asks-nothing = λ κs a. tt; says = λ κs a z e h. h }
+pub list-plan-says : {text out out-now : List ℕ} {r : Listed} → calls.List-plan text out out-now r → Lists-plan text out out-now r
+list-plan-says (calls.list-plan c) = c .learnt
 
--- `checker::check_table`
-pub checking : Contract the-check-kinds.ps the-check-kinds.r the-check.Asked the-check.Learnt (λ κs a z e.
-    z ≡ checker.answer-of (check (lines (a .0)) (a .1 .0 .now) (a .1 .1 .0)))
-checking = record { asks-nothing = λ κs a. tt; says = λ κs a z e h. h }
+pub print-all-says : {text out out-now : List ℕ} {count : ℕ} → calls.Print-all text out out-now count → Prints text out out-now count
+print-all-says (calls.print-all c) = c .learnt
 
--- `kernel::lookup`
-pub looking-up : Contract the-lookup-kinds.ps the-lookup-kinds.r the-lookup.Asked the-lookup.Learnt (λ κs a z e.
-    z ≡ found-of (lookup (lines (a .0)) (a .1 .0 .now) (a .1 .1 .0) (a .1 .1 .1 .0) (a .1 .1 .1 .1 .0) (a .1 .1 .1 .1 .1 .0) (a .1 .1 .1 .1 .1 .1 .0)))
-looking-up = record { asks-nothing = λ κs a. tt; says = λ κs a z e h. h }
+pub check-table-says : {p : Plan} {table : List ℕ} {delay : ℕ} {r : Checked} → calls.Check-table p table delay r → r ≡ checker.answer-of (check (lines p) table delay)
+check-table-says (calls.check-table c) = c .learnt
 
--- `kernel_rows::row_entries`
-pub row : Contract the-row-kinds.ps the-row-kinds.r the-row.Asked the-row.Learnt (λ κs a z e.
-    z .now ≡ row-part (a .0 .now) (a .1 .0))
-row = record { asks-nothing = λ κs a. tt; says = λ κs a z e h. h .1 }
+pub row-entries-says : {place : ℕ × ℕ} {table : List ℕ} {row : ℕ} {part-place : ℕ × ℕ} {part : List ℕ} → calls.Row-entries place table row part-place part →
+    (part-place ≡ words-on place (row-start table row)) × (part ≡ row-part table row)
+row-entries-says (calls.row-entries c) = (c .learnt .0, c .learnt .1)
 
--- `riscadru_copy_plan`
-pub c-copying : Contract the-c-copy-kinds.ps the-c-copy-kinds.r the-c-copy.Asked the-c-copy.Learnt (λ κs a z e.
-    Copies (a .0 .now) (a .1 .0 .now) (e .1 .0 .now) z)
-c-copying = record { asks-nothing = λ κs a. tt; says = λ κs a z e h. h }
+pub lookup-says : {p : Plan} {table : List ℕ} {node tick heard values from : ℕ} {r : Found} → calls.Lookup p table node tick heard values from r →
+    r ≡ found-of (lookup (lines p) table node tick heard values from)
+lookup-says (calls.lookup c) = c .learnt
 
--- `riscadru_plan_table`
-pub c-planning : Contract the-c-plan-kinds.ps the-c-plan-kinds.r the-c-plan.Asked the-c-plan.Learnt (λ κs a z e.
-    Tables (a .0 .now) (a .1 .0 .now) (a .1 .1 .0 .now) (a .1 .1 .1 .0 .now) (e .1 .0 .now) (e .1 .1 .0 .now) (e .1 .1 .1 .0 .now) z)
-c-planning = record { asks-nothing = λ κs a. tt; says = λ κs a z e h. h }
+pub c-copy-plan-says : {text out out-now : List ℕ} {answer : ℕ} → calls.C-copy-plan text out out-now answer → Copies text out out-now answer
+c-copy-plan-says (calls.c-copy-plan c) = c .learnt
 
--- `riscadru_plan_listing`
-pub c-printing : Contract the-c-print-kinds.ps the-c-print-kinds.r the-c-print.Asked the-c-print.Learnt (λ κs a z e.
-    Lists (a .0 .now) (a .1 .0 .now) (e .1 .0 .now) z)
-c-printing = record { asks-nothing = λ κs a. tt; says = λ κs a z e h. h }
+pub c-plan-table-says : {text table frames totals table-now frames-now totals-now : List ℕ} {answer : ℕ} → calls.C-plan-table text table frames totals table-now frames-now totals-now answer →
+    Tables text table frames totals table-now frames-now totals-now answer
+c-plan-table-says (calls.c-plan-table c) = c .learnt
 
--- `riscadru_check_table`
-pub c-checking : Contract the-c-check-kinds.ps the-c-check-kinds.r the-c-check.Asked the-c-check.Learnt (λ κs a z e.
-    Checks (a .0 .now) (a .1 .0 .now) (a .1 .1 .0) z)
-c-checking = record { asks-nothing = λ κs a. tt; says = λ κs a z e h. h }
+pub c-plan-listing-says : {text out out-now : List ℕ} {answer : ℕ} → calls.C-plan-listing text out out-now answer → Lists text out out-now answer
+c-plan-listing-says (calls.c-plan-listing c) = c .learnt
 
--- `riscadru_lookup`
-pub c-looking-up : Contract the-c-lookup-kinds.ps the-c-lookup-kinds.r the-c-lookup.Asked the-c-lookup.Learnt (λ κs a z e.
-    Answers-lookup (a .0 .now) (a .1 .0 .now) (a .1 .1 .0) (a .1 .1 .1 .0) (a .1 .1 .1 .1 .0) (a .1 .1 .1 .1 .1 .0) (a .1 .1 .1 .1 .1 .1 .0) z)
-c-looking-up = record { asks-nothing = λ κs a. tt; says = λ κs a z e h. h }
+pub c-check-table-says : {text table : List ℕ} {delay answer : ℕ} → calls.C-check-table text table delay answer → Checks text table delay answer
+c-check-table-says (calls.c-check-table c) = c .learnt
 
--- `riscadru_row_start`
-pub c-row-start : Contract the-c-row-start-kinds.ps the-c-row-start-kinds.r the-c-row-start.Asked the-c-row-start.Learnt (λ κs a z e.
-    z ≡ 4 * row-start (words-of (a .0 .now)) (a .1 .0))
-c-row-start = record { asks-nothing = λ κs a. tt; says = λ κs a z e h. h }
+pub c-lookup-says : {text table : List ℕ} {node tick heard values from answer : ℕ} → calls.C-lookup text table node tick heard values from answer →
+    Answers-lookup text table node tick heard values from answer
+c-lookup-says (calls.c-lookup c) = c .learnt
 
--- `riscadru_row_length`
-pub c-row-length : Contract the-c-row-length-kinds.ps the-c-row-length-kinds.r the-c-row-length.Asked the-c-row-length.Learnt (λ κs a z e.
-    z ≡ 4 * row-length (words-of (a .0 .now)) (a .1 .0))
-c-row-length = record { asks-nothing = λ κs a. tt; says = λ κs a z e h. h }
+pub c-row-start-says : {table : List ℕ} {row answer : ℕ} → calls.C-row-start table row answer → answer ≡ 4 * row-start (words-of table) row
+c-row-start-says (calls.c-row-start c) = c .learnt
+
+pub c-row-length-says : {table : List ℕ} {row answer : ℕ} → calls.C-row-length table row answer → answer ≡ 4 * row-length (words-of table) row
+c-row-length-says (calls.c-row-length c) = c .learnt
+
+pub code-keeps : Code-keeps
+code-keeps =
+    record {
+      empty = empty-met.met;
+      refuse = refuse-met.met;
+      read-plan = read-plan-met.met;
+      write-plan = write-plan-met.met;
+      plan-table = plan-table-met.met;
+      write-listing = write-listing-met.met;
+      write-refusal = write-refusal-met.met;
+      list-plan = list-plan-met.met;
+      print-all = print-all-met.met;
+      check-table = check-table-met.met;
+      row-entries = row-entries-met.met;
+      lookup = lookup-met.met;
+      c-copy-plan = c-copy-plan-met.met;
+      c-plan-table = c-plan-table-met.met;
+      c-plan-listing = c-plan-listing-met.met;
+      c-check-table = c-check-table-met.met;
+      c-lookup = c-lookup-met.met;
+      c-row-start = c-row-start-met.met;
+      c-row-length = c-row-length-met.met;
+    }
+
+pub asks-nothing : Asks-nothing
+asks-nothing =
+    record {
+      empty = λ κs a. tt;
+      refuse = λ κs a. tt;
+      read-plan = λ κs a. tt;
+      write-plan = λ κs a. tt;
+      plan-table = λ κs a. tt;
+      write-listing = λ κs a. tt;
+      write-refusal = λ κs a. tt;
+      list-plan = λ κs a. tt;
+      print-all = λ κs a. tt;
+      check-table = λ κs a. tt;
+      row-entries = λ κs a. tt;
+      lookup = λ κs a. tt;
+      c-copy-plan = λ κs a. tt;
+      c-plan-table = λ κs a. tt;
+      c-plan-listing = λ κs a. tt;
+      c-check-table = λ κs a. tt;
+      c-lookup = λ κs a. tt;
+      c-row-start = λ κs a. tt;
+      c-row-length = λ κs a. tt;
+    }

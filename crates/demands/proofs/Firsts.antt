@@ -14,10 +14,11 @@ use Rattle.model.specs.Plan.{Lines}
 use Rattle.model.specs.Refusals.{Refusal, nothing, refused, sentence, or-else, plan-refusal}
 use Rattle.model.specs.Text.{Means, Reading, reads, not-read, after-refusal, Answers-text, too-long, of-no-form, of-form, fitting}
 use Rattle.model.specs.Table.{Result, room-refusal}
+use Rattle.model.specs.Listing.{listing-refusal}
 use Rattle.model.specs.Checking.{table-refusal}
 use Rattle.text_grammar.proofs.Whole.{means-unique}
 use Rattle.text_grammar.proofs.Answers.{one-answer}
-use Rattle.demands.specs.Sentences.{Sentence, first, plan-sentences, bytes-sentences, room-sentences, table-sentences, First-of, First-of-text, exceeds, not-of-the-form, of-lines, Keeps-to, In-number}
+use Rattle.demands.specs.Sentences.{Sentence, first, plan-sentences, bytes-sentences, room-sentences, listing-sentences, table-sentences, First-of, First-of-text, exceeds, not-of-the-form, of-lines, Keeps-to, In-number}
 
 -- the sentences of document 01, in its order, are those that the model tries
 pub plan-first : (p : Lines) → first (plan-sentences p) ≡ plan-refusal p
@@ -31,6 +32,10 @@ bytes-first bytes lent = refl
 pub room-first : (r : Result) (words room : ℕ) → first (room-sentences r words room) ≡ room-refusal r words room
 unfolding first room-sentences room-refusal
 room-first r words room = refl
+
+pub listing-first : (p : Lines) (lent : ℕ) → first (listing-sentences p lent) ≡ listing-refusal p lent
+unfolding first listing-sentences listing-refusal
+listing-first p lent = refl
 
 pub table-first : (p : Lines) (words : List ℕ) (stated : ℕ) → first (table-sentences p words stated) ≡ table-refusal p words stated
 unfolding first table-sentences table-refusal

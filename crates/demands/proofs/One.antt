@@ -6,18 +6,18 @@ use mathlib.Core.Logic.{_⊎_, inl, inr}
 use mathlib.Core.List.{List, [], _++_}
 use native.Mathlib.Omega.{arith}
 use lib.Dec.{ltb}
-use lib.ListN.{length}
+use lib.ListN.{length, take, drop, length-drop}
+use lib.Seq.{length-take-le}
+use Rattle.lists.specs.Front.{front}
 use Rattle.model.specs.Plan.{Lines}
 use Rattle.model.specs.Refusals.{nothing, refused, or-else, plan-refusal}
 use Rattle.model.specs.Refusals as m
-use Rattle.model.specs.Text.{print, Means, Reading, Answers-text, fitting, write-plan, bytes-after}
+use Rattle.model.specs.Text.{print, Means, Reading, Answers-text, unless-refused, fitting, write-plan, bytes-after}
 use Rattle.model.specs.Table.{Result, result, entries-of, answered, room-refusal, plan-answer, table-after, frames-after}
-use Rattle.model.specs.Listing.{words-listing, refused-line, printed, program-prints}
+use Rattle.model.specs.Listing.{words-listing, refused-line, printed, program-prints, plan-listing, listing-refusal, list-plan, list-reading}
 use Rattle.model.specs.Checking.{table-refusal, check}
-use Rattle.model.specs.Lookup.{unless, lookup}
+use Rattle.model.specs.Lookup.{unless, lookup, row-start, row-length, row-part}
 use Rattle.model.specs.Lookup as model
-use Rattle.text_grammar.proofs.Answers.{answers-unique}
-use Rattle.program.proofs.Room.{program-fits}
 use Rattle.plan.specs.declared.Plan.{Plan}
 use Rattle.plan.specs.Memory.{lines, empty-plan}
 use Rattle.plan_refusals.specs.declared.sentences.Refusal.the-variants as variant
@@ -26,27 +26,50 @@ use Rattle.text_reader.specs.Answer.{reading-of, Emptied}
 use Rattle.text_writer.specs.declared.writer.Written.{Written}
 use Rattle.text_writer.specs.declared.writer.Written.the-variants as written
 use Rattle.text_writer.specs.Answer as writer
-use Rattle.planner.specs.declared.Made.{Made}
-use Rattle.planner.specs.declared.Planned.{Planned}
-use Rattle.planner.specs.declared.Planned.the-variants as planned
-use Rattle.planner.specs.Planner as planner
+use Rattle.planner_table.specs.declared.Made.{Made}
+use Rattle.planner_table.specs.declared.Planned.{Planned}
+use Rattle.planner_table.specs.declared.Planned.the-variants as planned
+use Rattle.planner_table.specs.Planner as planner
 use Rattle.listing.specs.declared.writer.Listed.{Listed}
 use Rattle.listing.specs.declared.writer.Listed.the-variants as listed
 use Rattle.listing.specs.Answer as listing
-use Rattle.program.specs.Prints.{Prints}
-use Rattle.checker.specs.declared.verdict.Checked.{Checked}
-use Rattle.checker.specs.declared.verdict.Checked.the-variants as checked
-use Rattle.checker.specs.Verdict as checker
+use Rattle.program.specs.Listing.{Lists-plan}
+use Rattle.checker_table.specs.declared.verdict.Checked.{Checked}
+use Rattle.checker_table.specs.declared.verdict.Checked.the-variants as checked
+use Rattle.checker_table.specs.Verdict as checker
+use Rattle.kernel_rows.specs.Part.{words-on}
 use Rattle.kernel.specs.declared.search.Found.{Found}
 use Rattle.kernel.specs.declared.search.Found.the-variants as found
 use Rattle.kernel.specs.Finding.{found-of}
-use Rattle.c_text.specs.Listing.{Lists}
-use Rattle.demands.specs.Sentences.{Sentence, first, plan-sentences, bytes-sentences, room-sentences, table-sentences, First-of, First-of-text, Keeps-to, In-number}
-use Rattle.demands.specs.One.{First-of-printed, Demand-1}
-use Rattle.demands.proofs.Firsts.{plan-first, bytes-first, room-first, table-first, plan-then, text-some, text-one, by-text, Told, keeps, keeps-list, keeps-text}
-use Rattle.demands.proofs.Told.{told-read, told-not-read, told-written, told-listed, told-number, told-planned, told-checked}
-use Rattle.demands.proofs.OneC.{c-copying, c-planning, c-checking, c-looking-up, c-row}
-use Rattle.demands.proofs.Within.{Finds, finds-none, finds-one, found-within, part-within}
+use Rattle.demands.specs.Sentences.{Sentence, first, plan-sentences, bytes-sentences, room-sentences, listing-sentences, table-sentences, First-of, First-of-text, Keeps-to}
+use Rattle.demands.specs.One.{Lies-in, Demand-1}
+use Rattle.demands.proofs.Firsts.{plan-first, bytes-first, room-first, listing-first, table-first, plan-then, text-some, text-one, by-text, Told, keeps-list, keeps-text}
+use Rattle.demands.proofs.Told.{told-read, told-not-read, told-written, told-listed, told-planned, told-checked}
+use Rattle.demands.proofs.OneC.{c-copying, c-listing-plan, c-planning, c-checking, c-looking-up, c-row}
+use Rattle.demands.proofs.Within.{Finds, finds-none, finds-one, found-within, row-within}
+use Rattle.demands.proofs.Contracts.{
+  code-keeps,
+  asks-nothing,
+  empty-says,
+  refuse-says,
+  read-plan-says,
+  write-plan-says,
+  plan-table-says,
+  write-listing-says,
+  write-refusal-says,
+  list-plan-says,
+  print-all-says,
+  check-table-says,
+  row-entries-says,
+  lookup-says,
+  c-copy-plan-says,
+  c-plan-table-says,
+  c-plan-listing-says,
+  c-check-table-says,
+  c-lookup-says,
+  c-row-start-says,
+  c-row-length-says,
+}
 
 reading : (text : List ℕ) (r : Read) → Answers-text text (reading-of r) → Emptied r →
     Keeps-to (First-of-text text plan-sentences) (λ n. r .refusal ≡ variant.Refused n) (r .plan ≡ empty-plan)
@@ -98,28 +121,27 @@ listing-bytes bytes out out-now r e b =
     keeps-list (λ n. r ≡ listed.Refused n) (out-now ≡ out) ((n : ℕ) × (r ≡ listed.Wrote n)) (bytes-sentences bytes (length out)) (fitting (length out) bytes)
     (bytes-first bytes (length out)) (put bytes out out-now r e b)
 
--- what is printed for a text is one text
-printed-one : (text : List ℕ) (lent : ℕ) (x y : m.Refusal) → First-of-printed text lent x → First-of-printed text lent y → x ≡ y
-printed-one text lent x y (r, a, e) (s, b, f) =
-    sym e ∙ ap (λ (z : Reading). first (bytes-sentences (program-prints z) lent)) (answers-unique a b) ∙ f
-
 module _ (text out out-now : List ℕ) where
-  printing : (r : Listed) → Prints text out out-now r →
-      Keeps-to (First-of-printed text (length out)) (λ n. r ≡ listed.Refused n) (out-now ≡ out) ((n : ℕ) × (r ≡ listed.Wrote n))
-  printing r c =
-      let bytes : List ℕ = program-prints (c .reading) in
-      let h : First-of-printed text (length out) (fitting (length out) bytes) = (c .reading, c .of-text, bytes-first bytes (length out)) in
-      keeps (First-of-printed text (length out)) (λ n. r ≡ listed.Refused n) (out-now ≡ out) ((n : ℕ) × (r ≡ listed.Wrote n)) (fitting (length out) bytes) h
-      (λ y k. printed-one text (length out) (fitting (length out) bytes) y h k) (put bytes out out-now r (c .answer) (c .bytes))
+  -- the listing of a text's plan
+  listed-plan : (r : Listed) (p : Lines) → plan-refusal p ≡ nothing → r ≡ listing.answer-of (list-plan p (length out)) → out-now ≡ bytes-after (list-plan p (length out)) out →
+      Told (λ n. r ≡ listed.Refused n) (out-now ≡ out) ((n : ℕ) × (r ≡ listed.Wrote n)) (first (listing-sentences p (length out)))
+  unfolding list-plan or-else
+  listed-plan r p fine e b =
+      let w : list-plan p (length out) ≡ unless-refused (listing-refusal p (length out)) (plan-listing p) = rw fine in
+      rw (listing-first p (length out))
+      (told-listed (plan-listing p) out out-now (listing-refusal p (length out)) r (e ∙ ap listing.answer-of w) (b ∙ ap (λ (z : _). bytes-after z out) w))
 
-  pub c-printing : (answer : ℕ) → Lists text out out-now answer → Keeps-to (First-of-printed text (length out)) (In-number answer) (out-now ≡ out) (answer ≤ length out)
-  unfolding listing.written-of fitting
-  c-printing answer c =
-      let bytes : List ℕ = program-prints (c .reading) in
-      let h : First-of-printed text (length out) (fitting (length out) bytes) = (c .reading, c .of-text, bytes-first bytes (length out)) in
-      keeps (First-of-printed text (length out)) (In-number answer) (out-now ≡ out) (answer ≤ length out) (fitting (length out) bytes) h
-      (λ y k. printed-one text (length out) (fitting (length out) bytes) y h k)
-      (told-number bytes out out-now (ltb (length out) (length bytes)) answer refl (program-fits text (c .reading) (c .of-text)) (c .number) (c .bytes))
+  listing-plan : (r : Listed) → Lists-plan text out out-now r →
+      Keeps-to (First-of-text text (λ p. plan-sentences p ++ listing-sentences p (length out))) (λ n. r ≡ listed.Refused n) (out-now ≡ out) ((n : ℕ) × (r ≡ listed.Wrote n))
+  unfolding list-reading bytes-after
+  listing-plan r c =
+      let T : m.Refusal → Type 0 = Told (λ n. r ≡ listed.Refused n) (out-now ≡ out) ((n : ℕ) × (r ≡ listed.Wrote n)) in
+      let x =
+      by-text text (λ p. listing-sentences p (length out))
+      (λ s x. r ≡ listing.answer-of (list-reading s (length out)) → out-now ≡ bytes-after (list-reading s (length out)) out → T x) (c .reading) (c .of-text)
+      (λ n l k e b. (e, (λ j f. cc), b)) (λ p m fine e b. listed-plan r p fine e b) in
+      keeps-text (λ n. r ≡ listed.Refused n) (out-now ≡ out) ((n : ℕ) × (r ≡ listed.Wrote n)) text (λ p. plan-sentences p ++ listing-sentences p (length out)) (x .0) (x .1)
+      (x .2 (c .answer) (c .bytes))
 
 -- a refusal of the text or of the planner is printed
 room-printed : (p : Lines) (words room : ℕ) (x : m.Refusal) (n : ℕ) → x ≡ refused n → printed p (answered x (result p)) ≡ refused-line n
@@ -168,26 +190,48 @@ looking-up p table node tick heard values from r e =
     (told-found (plan-refusal (lines p)) _ (length (entries-of table)) r
     (found-within (lines p) node tick heard values (ltb node (length (lines p .slots))) (entries-of table) from) e)
 
+-- the part of a table that holds a row's entries
+lies : (place : ℕ × ℕ) (table : List ℕ) (r : ℕ) (part-place : ℕ × ℕ) (part : List ℕ) → part-place ≡ words-on place (row-start table r) → part ≡ row-part table r →
+    Lies-in place table part-place part
+unfolding row-part
+lies place table r part-place part a e =
+    let n : length part ≡ row-length table r = ap length e ∙ length-take-le (row-length table r) (drop (row-start table r) table) (omega (arith, row-within table r, length-drop (row-start table r) table)) in
+    record {
+      from = row-start table r;
+      at = a;
+      within = omega (arith, row-within table r);
+      words = e ∙ ap (λ (k : ℕ). take k (drop (row-start table r) table)) (sym n);
+    }
+
 pub demand-one : Demand-1
 demand-one =
     record {
+      code-keeps = code-keeps;
+      asks-nothing = asks-nothing;
       some-first = text-some;
       one-first = text-one;
-      refusing = λ p r e. plan-first (lines p) ∙ sym e;
-      reading = reading;
-      writing = writing;
-      planning = planning;
-      listing-words = λ p delay passed table frames out out-now r e b. listing-bytes (words-listing (lines p) delay passed table frames) out out-now r e b;
-      listing-refusal = λ number out out-now r e b. listing-bytes (refused-line number) out out-now r e b;
-      printing = printing;
-      printed = refusal-printed;
-      checking = checking;
-      looking-up = looking-up;
-      row = λ table part r e. omega (arith, ap length e, part-within table r);
-      c-copying = c-copying;
-      c-planning = c-planning;
-      c-printing = c-printing;
-      c-checking = c-checking;
-      c-looking-up = c-looking-up;
-      c-row = c-row;
+      starting = λ p c. empty-says c;
+      refusing = λ p r c. plan-first (lines p) ∙ sym (refuse-says c);
+      reading = λ text r c. (let h = read-plan-says c in reading text r (h .0) (h .1));
+      writing = λ p out out-now r c. (let h = write-plan-says c in writing p out out-now r (h .0) (h .1));
+      planning = λ p table frames table-now frames-now r c. (let h = plan-table-says c in planning p table frames table-now frames-now r (h .0) (h .1) (h .2));
+      listing-words = λ p delay passed table frames out out-now r c.
+          (let h = write-listing-says c in listing-bytes (words-listing (lines p) delay passed table frames) out out-now r (h .0) (h .1));
+      listing-refusal = λ number out out-now r c. (let h = write-refusal-says c in listing-bytes (refused-line number) out out-now r (h .0) (h .1));
+      listing-plan = λ text out out-now r c. listing-plan text out out-now r (list-plan-says c);
+      printing = λ text out out-now count c n h.
+          (let q = print-all-says c in
+          let e = refusal-printed text (q .reading) (q .of-text) n h in
+          (q .counted ∙ ap length e, q .bytes ∙ ap (λ (z : List ℕ). front z out) e));
+      checking = λ p table delay r c. checking p table delay r (check-table-says c);
+      looking-up = λ p table node tick heard values from r c. looking-up p table node tick heard values from r (lookup-says c);
+      row = λ place table r part-place part c. (let h = row-entries-says c in lies place table r part-place part (h .0) (h .1));
+      c-copying = λ text out out-now answer c. c-copying text out out-now answer (c-copy-plan-says c);
+      c-planning = λ text table frames totals table-now frames-now totals-now answer c.
+          c-planning text table frames totals table-now frames-now totals-now answer (c-plan-table-says c);
+      c-listing-plan = λ text out out-now answer c. c-listing-plan text out out-now answer (c-plan-listing-says c);
+      c-checking = λ text table delay answer c. c-checking text table delay answer (c-check-table-says c);
+      c-looking-up = λ text table node tick heard values from answer few c.
+          c-looking-up text table node tick heard values from answer few (c-lookup-says c);
+      c-row = λ table r start many a b. c-row table r start many (c-row-start-says a) (c-row-length-says b);
     }

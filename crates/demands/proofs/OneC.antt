@@ -12,20 +12,22 @@ use Rattle.model.specs.Refusals.{nothing, refused, or-else, plan-refusal}
 use Rattle.model.specs.Refusals as m
 use Rattle.model.specs.Text.{print, Reading, reads, not-read, unless-refused, fitting, write-plan, bytes-after}
 use Rattle.model.specs.Table.{Result, result, entry-words, frame-words, entries-of, answered, room-refusal, plan-answer}
+use Rattle.model.specs.Listing.{plan-listing, listing-refusal, list-plan, list-reading}
 use Rattle.model.specs.Checking.{table-refusal}
 use Rattle.model.specs.Lookup.{none, unless, lookup, row-start, row-length}
 use Rattle.model.specs.Lookup as model
 use Rattle.model.specs.Firmware.{words-of, found-number, found-in, Answers-lookup}
 use Rattle.text_grammar.proofs.Bounds.{print-length}
-use Rattle.planner.proofs.Most.{entries-cap}
+use Rattle.planner_table.proofs.Most.{entries-cap}
 use Rattle.c_words.proofs.Reading.{words-count}
 use Rattle.c_check.specs.Checks.{checked-of, checked-number, Checks}
 use Rattle.c_words.specs.Numbers.{written-number}
 use Rattle.c_text.specs.Copy.{copy, Copies}
+use Rattle.c_text.specs.Listing.{Lists}
 use Rattle.c_interface.specs.Tables.{planned-of, Puts, Tables}
-use Rattle.demands.specs.Sentences.{first, plan-sentences, bytes-sentences, room-sentences, table-sentences, First-of-text, Keeps-to, In-number}
-use Rattle.demands.proofs.Firsts.{bytes-first, room-first, table-first, number-listed, by-text, Told, keeps-text, number-refused, number-result}
-use Rattle.demands.proofs.Told.{told-number, told-table, told-turned}
+use Rattle.demands.specs.Sentences.{first, plan-sentences, bytes-sentences, room-sentences, listing-sentences, table-sentences, First-of-text, Keeps-to, In-number}
+use Rattle.demands.proofs.Firsts.{bytes-first, room-first, listing-first, table-first, number-listed, by-text, Told, keeps-text, number-refused, number-result}
+use Rattle.demands.proofs.Told.{told-number, told-listing, told-table, told-turned}
 use Rattle.demands.proofs.Within.{twenty, Finds, finds-none, finds-one, found-within, row-within}
 
 -- `riscadru_copy_plan`
@@ -51,6 +53,27 @@ module _ (text out out-now : List ℕ) (answer : ℕ) where
       (λ s x. answer ≡ written-number (copy s (length out)) → out-now ≡ bytes-after (copy s (length out)) out → Copied x) (c .reading) (c .of-text)
       (λ n l k e b. number-refused (out-now ≡ out) (answer ≤ length out) answer n l k e b) (λ p m fine e b. copied p fine e b) in
       keeps-text (In-number answer) (out-now ≡ out) (answer ≤ length out) text (λ p. plan-sentences p ++ bytes-sentences (print p) (length out)) (x .0) (x .1)
+      (x .2 (c .number) (c .bytes))
+
+-- `riscadru_plan_listing`
+module _ (text out out-now : List ℕ) (answer : ℕ) where
+  listed-number : (p : Lines) → plan-refusal p ≡ nothing → answer ≡ written-number (list-plan p (length out)) → out-now ≡ bytes-after (list-plan p (length out)) out →
+      Told (In-number answer) (out-now ≡ out) (answer ≤ length out) (first (listing-sentences p (length out)))
+  unfolding list-plan or-else
+  listed-number p fine e b =
+      let w : list-plan p (length out) ≡ unless-refused (listing-refusal p (length out)) (plan-listing p) = rw fine in
+      rw (listing-first p (length out)) (told-listing p fine out out-now answer (e ∙ ap written-number w) (b ∙ ap (λ (z : _). bytes-after z out) w))
+
+  pub c-listing-plan : Lists text out out-now answer →
+      Keeps-to (First-of-text text (λ p. plan-sentences p ++ listing-sentences p (length out))) (In-number answer) (out-now ≡ out) (answer ≤ length out)
+  unfolding list-reading written-number bytes-after
+  c-listing-plan c =
+      let x =
+      by-text text (λ p. listing-sentences p (length out))
+      (λ s x. answer ≡ written-number (list-reading s (length out)) → out-now ≡ bytes-after (list-reading s (length out)) out →
+      Told (In-number answer) (out-now ≡ out) (answer ≤ length out) x) (c .reading) (c .of-text)
+      (λ n l k e b. number-refused (out-now ≡ out) (answer ≤ length out) answer n l k e b) (λ p m fine e b. listed-number p fine e b) in
+      keeps-text (In-number answer) (out-now ≡ out) (answer ≤ length out) text (λ p. plan-sentences p ++ listing-sentences p (length out)) (x .0) (x .1)
       (x .2 (c .number) (c .bytes))
 
 -- `riscadru_plan_table`

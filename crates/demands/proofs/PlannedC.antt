@@ -24,7 +24,7 @@ use Rattle.laws.proofs.Entries.{final, entries-in}
 use Rattle.laws.proofs.Good.{good}
 use Rattle.laws.proofs.OwnTable.{own-table-sound}
 use Rattle.laws.proofs.Sound.{sound-iff}
-use Rattle.planner.proofs.Most.{delay-most}
+use Rattle.planner_table.proofs.Most.{delay-most}
 use Rattle.checker_rows.proofs.ColumnBits.{Formed, formed}
 use Rattle.laws.proofs.Words.{entries-back}
 use Rattle.c_words.specs.Bytes.{word-bytes, bytes-of}
@@ -128,8 +128,8 @@ module _ (text table frames totals table-now frames-now totals-now : List ℕ) (
       (λ i. table-refusal p (t i) (d i)) ∙ neither (plan-refusal p) (table-refusal p words (result p .delay)) (own-table-sound p fine) .1
 
   -- Whatever text and bytes are lent, those for the totals at least twelve: where `riscadru_plan_table` does not
-  -- refuse, 0 is the answer of `riscadru_check_table` to the bytes that it wrote, with the delay that it put into the
-  -- totals.
+  -- refuse, the contract of `riscadru_check_table` holds with 0 for the bytes that it wrote and the delay that it put
+  -- into the totals.
   pub c-planned-accepted : Tables text table frames totals table-now frames-now totals-now answer → Not-refused answer → 12 ≤ length totals →
       Checks text (take answer table-now) (getD (words-of totals-now) 2 0) 0
   unfolding planned-of checked-number

@@ -2,17 +2,19 @@
 -- Assumes nothing.
 use Prim.Native.Nat.{ℕ, _*_, _/_, _≤_}
 use mathlib.Core.Path.{_≡_, refl, subst}
-use mathlib.Core.Bool.{Bool, true, false}
+use mathlib.Core.Bool.{Bool, true, false, _||_}
 use mathlib.Core.List.{List}
 use native.Mathlib.Omega.{arith}
 use borrow.Author.Tests.{ltb-false}
 use lib.Dec.{ltb}
 use lib.ListN.{length}
 use Rattle.model.specs.Plan.{Lines}
-use Rattle.model.specs.Refusals.{nothing, refused, sentence}
+use Rattle.model.specs.Refusals.{nothing, refused, sentence, plan-refusal}
 use Rattle.model.specs.Refusals as m
 use Rattle.model.specs.Text.{Means, reads, not-read, after-refusal, unless-refused, bytes-after}
-use Rattle.model.specs.Table.{Result, answered, table-after, frames-after, entry-words}
+use Rattle.model.specs.Table.{Result, result, answered, table-after, frames-after, entry-words, frame-words}
+use Rattle.model.specs.Listing.{plan-listing, listing-refusal}
+use Rattle.program.proofs.Room.{listing-most}
 use Rattle.plan.specs.Memory.{lines, empty-plan}
 use Rattle.plan_refusals.specs.declared.sentences.Refusal.{Refusal}
 use Rattle.plan_refusals.specs.declared.sentences.Refusal.the-variants as refusal
@@ -22,16 +24,16 @@ use Rattle.text_reader.specs.Answer.{reading-of, Emptied}
 use Rattle.text_writer.specs.declared.writer.Written.{Written}
 use Rattle.text_writer.specs.declared.writer.Written.the-variants as written
 use Rattle.text_writer.specs.Answer as writer
-use Rattle.planner.specs.declared.Made.{Made}
-use Rattle.planner.specs.declared.Planned.{Planned}
-use Rattle.planner.specs.declared.Planned.the-variants as planned
-use Rattle.planner.specs.Planner as planner
+use Rattle.planner_table.specs.declared.Made.{Made}
+use Rattle.planner_table.specs.declared.Planned.{Planned}
+use Rattle.planner_table.specs.declared.Planned.the-variants as planned
+use Rattle.planner_table.specs.Planner as planner
 use Rattle.listing.specs.declared.writer.Listed.{Listed}
 use Rattle.listing.specs.declared.writer.Listed.the-variants as listed
 use Rattle.listing.specs.Answer as listing
-use Rattle.checker.specs.declared.verdict.Checked.{Checked}
-use Rattle.checker.specs.declared.verdict.Checked.the-variants as checked
-use Rattle.checker.specs.Verdict as checker
+use Rattle.checker_table.specs.declared.verdict.Checked.{Checked}
+use Rattle.checker_table.specs.declared.verdict.Checked.the-variants as checked
+use Rattle.checker_table.specs.Verdict as checker
 use Rattle.c_words.specs.Numbers.{written-number}
 use Rattle.c_interface.specs.Tables.{table-number, Puts}
 use Rattle.c_plan.specs.Filled.{table-bytes-after, frame-bytes-after, totals-after}
@@ -79,12 +81,34 @@ module _ (bytes out out-now : List ℕ) where
   told-listed (refused n) r e b = (e, (λ k f. cc), b)
 
   -- a text of few bytes put into lent bytes, as a number
-  pub told-number : (b : Bool) (answer : ℕ) → ltb (length out) (length bytes) ≡ b → length bytes ≤ 388100 → answer ≡ written-number (unless-refused (sentence 10 b nothing) bytes) →
+  pub told-number : (b : Bool) (answer : ℕ) → ltb (length out) (length bytes) ≡ b → length bytes ≤ 16384 → answer ≡ written-number (unless-refused (sentence 10 b nothing) bytes) →
       out-now ≡ bytes-after (unless-refused (sentence 10 b nothing) bytes) out → Told (In-number answer) (out-now ≡ out) (answer ≤ length out) (sentence 10 b nothing)
   unfolding unless-refused bytes-after written-number
   told-number true answer t l e q = number-refused (out-now ≡ out) (answer ≤ length out) answer 10 (omega arith) (omega arith) e q
   told-number false answer t l e q =
       number-result (out-now ≡ out) (answer ≤ length out) answer (omega arith) (omega (arith, ltb-false (length out) (length bytes) t))
+
+-- the listing of a plan, as a number: 10 by its entries or its bytes, 11 by its frames
+abbrev Refused-by : Bool → Bool → Bool → m.Refusal
+Refused-by a b c = sentence 10 (a || b) (sentence 11 c nothing)
+
+module _ (p : Lines) (fine : plan-refusal p ≡ nothing) (out out-now : List ℕ) (answer : ℕ) where
+  pub told-listing : answer ≡ written-number (unless-refused (listing-refusal p (length out)) (plan-listing p)) →
+      out-now ≡ bytes-after (unless-refused (listing-refusal p (length out)) (plan-listing p)) out →
+      Told (In-number answer) (out-now ≡ out) (answer ≤ length out) (listing-refusal p (length out))
+  unfolding listing-refusal unless-refused bytes-after written-number
+  told-listing e b =
+      at (ltb 15000 (length (entry-words (result p .entries)))) (ltb (length out) (length (plan-listing p))) (ltb 6000 (length (frame-words (result p .frames)))) refl refl e b
+    where
+      at : (a b c : Bool) → ltb 15000 (length (entry-words (result p .entries))) ≡ a → ltb (length out) (length (plan-listing p)) ≡ b →
+          answer ≡ written-number (unless-refused (Refused-by a b c) (plan-listing p)) → out-now ≡ bytes-after (unless-refused (Refused-by a b c) (plan-listing p)) out →
+          Told (In-number answer) (out-now ≡ out) (answer ≤ length out) (Refused-by a b c)
+      at true b c s t e q = number-refused (out-now ≡ out) (answer ≤ length out) answer 10 (omega arith) (omega arith) e q
+      at false true c s t e q = number-refused (out-now ≡ out) (answer ≤ length out) answer 10 (omega arith) (omega arith) e q
+      at false false true s t e q = number-refused (out-now ≡ out) (answer ≤ length out) answer 11 (omega arith) (omega arith) e q
+      at false false false s t e q =
+          let few = listing-most p fine (ltb-false _ _ s) in
+          number-result (out-now ≡ out) (answer ≤ length out) answer (omega arith) (omega (arith, ltb-false (length out) (length (plan-listing p)) t))
 
 -- the planner's answer
 module _ (q : Result) (table frames table-now frames-now : List ℕ) where

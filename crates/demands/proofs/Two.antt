@@ -10,10 +10,10 @@ use Rattle.lists.specs.Front.{front}
 use Rattle.lists.proofs.Front.{front-written}
 use Rattle.model.specs.Plan.{Lines}
 use Rattle.model.specs.Refusals.{Refusal, nothing, refused, or-else, plan-refusal}
-use Rattle.model.specs.Text.{print, Means, Reading, reads, after-refusal, Answers-text, of-form, wrote, not-written, unless-refused, fitting, write-plan, bytes-after}
+use Rattle.model.specs.Text.{print, Means, Reading, reads, not-read, after-refusal, Answers-text, of-form, wrote, not-written, unless-refused, write-plan, bytes-after}
 use Rattle.model.specs.Text as text
 use Rattle.model.specs.Table.{Answer, made, Result, result, entry-words, frame-words, answered, room-refusal, plan-answer, table-after, frames-after}
-use Rattle.model.specs.Listing.{printed, program-prints}
+use Rattle.model.specs.Listing.{printed, program-prints, plan-listing, listing-refusal, list-plan, list-reading}
 use Rattle.laws.proofs.Good.{good}
 use Rattle.laws.proofs.Choice.{urgency-law, urgency-weights, number-weights, starts-highest, queue-ordered}
 use Rattle.text_grammar.proofs.Whole.{means-unique}
@@ -29,25 +29,25 @@ use Rattle.text_writer.specs.declared.writer.Written.the-variants as written
 use Rattle.text_writer.specs.Answer as writer
 use Rattle.plan_refusals.proofs.Accepted.{of-read}
 use Rattle.text_writer.proofs.ReadBack.{written-is-read, read-is-written}
-use Rattle.planner.specs.declared.Made.{Made}
-use Rattle.planner.specs.declared.Planned.the-variants as planned
-use Rattle.planner.specs.Planner as planner
-use Rattle.planner.proofs.PlannedSound.{made-fine}
+use Rattle.planner_table.specs.declared.Made.{Made}
+use Rattle.planner_table.specs.declared.Planned.the-variants as planned
+use Rattle.planner_table.specs.Planner as planner
+use Rattle.planner_table.proofs.PlannedSound.{made-fine}
 use Rattle.listing.specs.declared.writer.Listed.the-variants as listed
 use Rattle.listing.specs.Answer as listing
-use Rattle.program.specs.Prints.{Prints}
-use Rattle.planner.proofs.Given.{Was-made, was-made}
+use Rattle.planner_table.proofs.Given.{Was-made, was-made}
+use Rattle.planner_table.proofs.Most.{delay-bounded}
 use Rattle.c_words.specs.Numbers.{written-number}
 use Rattle.c_text.specs.Copy.{copy, Copies}
 use Rattle.c_text.specs.Listing.{Lists}
 use Rattle.c_interface.specs.Tables.{planned-of, table-number, Puts, Tables}
 use Rattle.c_plan.specs.Filled.{table-bytes-after, frame-bytes-after, totals-after}
-use Rattle.demands.specs.Sentences.{Sentence, first, bytes-sentences, room-sentences, Keeps-to}
-use Rattle.demands.specs.Two.{Not-refused, Scheduled, Scheduled-bytes, plan-listing, Plans, Demand-2}
-use Rattle.demands.proofs.Firsts.{plan-first, bytes-first, room-first, plan-then, by-text}
+use Rattle.demands.specs.Sentences.{Sentence, first, bytes-sentences, room-sentences, listing-sentences, Keeps-to}
+use Rattle.demands.specs.Two.{Not-refused, Scheduled, Scheduled-bytes, Plans, Listed-plan, Demand-2}
+use Rattle.demands.proofs.Firsts.{plan-first, bytes-first, room-first, listing-first, plan-then, by-text}
 use Rattle.demands.proofs.Told.{lines-read}
-use Rattle.demands.proofs.OneC.{c-copying, c-planning}
-use Rattle.demands.proofs.One.{c-printing}
+use Rattle.demands.proofs.OneC.{c-copying, c-listing-plan, c-planning}
+use Rattle.demands.proofs.Contracts.{read-plan-says, write-plan-says, plan-table-says, list-plan-says, print-all-says, c-copy-plan-says, c-plan-table-says, c-plan-listing-says}
 
 -- what was read is lines that the text means
 module _ (text : List ℕ) (r : Read) (told : Answers-text text (reading-of r)) (read : r .refusal ≡ refusal.Nothing) where
@@ -168,51 +168,60 @@ prints-plan text s p a h =
     ap program-prints q ∙ ap (λ (y : Refusal). printed p (answered y (result p))) x
 
 -- a text that was put into lent bytes
-module _ (bytes out out-now : List ℕ) where
-  was-put : (x : Refusal) (n : ℕ) → listed.Wrote n ≡ listing.answer-of (unless-refused x bytes) → out-now ≡ bytes-after (unless-refused x bytes) out →
-      (n ≡ length bytes) × (out-now ≡ front bytes out)
-  unfolding unless-refused bytes-after
-  was-put nothing n e b = (cc, b)
-  was-put (refused k) n e b = absurd (let z : _≡_ {A = ℕ} 0 1 = cc in omega arith)
-
-  was-numbered : (x : Refusal) (n : ℕ) → x ≡ nothing → n ≡ written-number (unless-refused x bytes) → out-now ≡ bytes-after (unless-refused x bytes) out →
-      (n ≡ length bytes) × (out-now ≡ front bytes out)
-  unfolding unless-refused bytes-after written-number
-  was-numbered nothing n h e b = (e, b)
-  was-numbered (refused k) n h e b = absurd (let z : _≡_ {A = ℕ} 0 1 = cc in omega arith)
+was-put : (bytes out out-now : List ℕ) (x : Refusal) (n : ℕ) → listed.Wrote n ≡ listing.answer-of (unless-refused x bytes) → out-now ≡ bytes-after (unless-refused x bytes) out →
+    (n ≡ length bytes) × (out-now ≡ front bytes out)
+unfolding unless-refused bytes-after
+was-put bytes out out-now nothing n e b = (cc, b)
+was-put bytes out out-now (refused k) n e b = absurd (let z : _≡_ {A = ℕ} 0 1 = cc in omega arith)
 
 module _ (text out out-now : List ℕ) where
-  printed-plan : (n : ℕ) → Prints text out out-now (listed.Wrote n) → (p : Lines) → Plans text p → (n ≡ length (plan-listing p)) × (out-now ≡ front (plan-listing p) out)
-  unfolding listing.written-of
-  printed-plan n c p h =
-      subst (λ (bytes : List ℕ). (n ≡ length bytes) × (out-now ≡ front bytes out)) (prints-plan text (c .reading) p (c .of-text) h)
-      (was-put (program-prints (c .reading)) out out-now (fitting (length out) (program-prints (c .reading))) n (c .answer) (c .bytes))
+  was-listed : (n : ℕ) (s : Reading) → Answers-text text s → listed.Wrote n ≡ listing.answer-of (list-reading s (length out)) →
+      out-now ≡ bytes-after (list-reading s (length out)) out → Listed-plan text out out-now n
+  unfolding list-reading list-plan
+  was-listed n (reads p) a e b =
+      let w = was-put (plan-listing p) out out-now (or-else (plan-refusal p) (listing-refusal p (length out))) n e b in
+      record { plan = p; means = of-read text (reads p) p a refl .1; counted = w .0; bytes = w .1 }
+  was-listed n (not-read k) a e b = absurd (let z : _≡_ {A = ℕ} 0 1 = cc in omega arith)
 
-  c-printed : (answer : ℕ) → Lists text out out-now answer → Not-refused answer → (p : Lines) → Plans text p →
-      (answer ≡ length (plan-listing p)) × (out-now ≡ front (plan-listing p) out)
-  unfolding listing.written-of
-  c-printed answer c not p h =
-      let bytes : List ℕ = program-prints (c .reading) in
-      let none : fitting (length out) bytes ≡ nothing =
-      none-applies (c-printing text out out-now answer c) not (fitting (length out) bytes) (c .reading, c .of-text, bytes-first bytes (length out)) in
-      subst (λ (z : List ℕ). (answer ≡ length z) × (out-now ≡ front z out)) (prints-plan text (c .reading) p (c .of-text) h)
-      (was-numbered bytes out out-now (fitting (length out) bytes) answer none (c .number) (c .bytes))
+  was-numbered : (answer : ℕ) (p : Lines) → Means text p → plan-refusal p ≡ nothing → first (listing-sentences p (length out)) ≡ nothing →
+      answer ≡ written-number (list-plan p (length out)) → out-now ≡ bytes-after (list-plan p (length out)) out → Listed-plan text out out-now answer
+  unfolding list-plan or-else unless-refused written-number bytes-after
+  was-numbered answer p m fine f e b =
+      let w : list-plan p (length out) ≡ wrote (plan-listing p) = rw (fine, sym (listing-first p (length out)), f) in
+      record { plan = p; means = m; counted = e ∙ ap written-number w; bytes = b ∙ ap (λ (z : _). bytes-after z out) w }
+
+  c-listed : (answer : ℕ) → Lists text out out-now answer → Not-refused answer → Listed-plan text out out-now answer
+  unfolding list-reading
+  c-listed answer c not =
+      let x =
+      by-text text (λ p. listing-sentences p (length out))
+      (λ s x. x ≡ nothing → answer ≡ written-number (list-reading s (length out)) → out-now ≡ bytes-after (list-reading s (length out)) out → Listed-plan text out out-now answer)
+      (c .reading) (c .of-text) (λ n l k f. absurd (let z : _≡_ {A = ℕ} 0 1 = cc in omega arith)) (λ p m fine f e b. was-numbered answer p m fine f e b) in
+      x .2 (none-applies (c-listing-plan text out out-now answer c) not (x .0) (x .1)) (c .number) (c .bytes)
 
 pub demand-two : Demand-2
 demand-two =
     record {
-      meaning = λ text r a e. meant text r a e .prints;
-      only-meaning = λ text r a e q m. means-unique m (meant text r a e);
-      is-read = λ text r a q m l h. is-theirs r q (reads-as text (reading-of r) q a m l (sym (plan-first q) ∙ h));
-      one-text = λ text other r s a b e f same. sym (meant text r a e .prints) ∙ ap print same ∙ meant other s b f .prints;
-      written-read = λ p out out-now n e b r a.
-          is-theirs r (lines p) (written-is-read (lines p) (length out) (take n out-now) (reading-of r) (written-back (write-plan (lines p) (length out)) out out-now n e b) a);
-      read-written = read-written;
-      c-copied = c-copied;
-      scheduled = scheduled;
-      c-scheduled = c-scheduled;
-      printed = printed-plan;
-      c-printed = c-printed;
+      meaning = λ text r c e. meant text r (read-plan-says c .0) e .prints;
+      only-meaning = λ text r c e q m. means-unique m (meant text r (read-plan-says c .0) e);
+      is-read = λ text r c q m l h. is-theirs r q (reads-as text (reading-of r) q (read-plan-says c .0) m l (sym (plan-first q) ∙ h));
+      one-text = λ text other r s a b e f same. sym (meant text r (read-plan-says a .0) e .prints) ∙ ap print same ∙ meant other s (read-plan-says b .0) f .prints;
+      written-read = λ p out out-now n c r a.
+          (let h = write-plan-says c in
+          is-theirs r (lines p)
+          (written-is-read (lines p) (length out) (take n out-now) (reading-of r) (written-back (write-plan (lines p) (length out)) out out-now n (h .0) (h .1)) (read-plan-says a .0)));
+      read-written = λ text r a e out out-now w l c. (let h = write-plan-says c in read-written text r (read-plan-says a .0) e out out-now w l (h .0) (h .1));
+      c-copied = λ text out out-now answer c not. c-copied text out out-now answer (c-copy-plan-says c) not;
+      scheduled = λ p table frames table-now frames-now m c. (let h = plan-table-says c in scheduled p table frames table-now frames-now m (h .0) (h .1) (h .2));
+      c-scheduled = λ text table frames totals table-now frames-now totals-now answer c not.
+          c-scheduled text table frames totals table-now frames-now totals-now answer (c-plan-table-says c) not;
+      listed = λ text out out-now n c. (let q = list-plan-says c in was-listed text out out-now n (q .reading) (q .of-text) (q .answer) (q .bytes));
+      c-listed = λ text out out-now answer c not. c-listed text out out-now answer (c-plan-listing-says c) not;
+      printed = λ text out out-now count c p h.
+          (let q = print-all-says c in
+          let e = prints-plan text (q .reading) p (q .of-text) h in
+          (q .counted ∙ ap length e, q .bytes ∙ ap (λ (z : List ℕ). front z out) e));
+      bounded = λ p h. delay-bounded p (sym (plan-first p) ∙ h);
       urgency = λ p h i l. urgency-law p (good p (sym (plan-first p) ∙ h)) i l;
       by-weight = λ p. (urgency-weights p, number-weights p);
       starts-first = starts-highest;

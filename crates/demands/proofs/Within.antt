@@ -8,10 +8,9 @@ use native.Mathlib.Omega.{arith}
 use lib.Dec.{eqb}
 use lib.ListN.{length, drop, length-drop}
 use Rattle.lists.specs.Lists.{if_then_else_}
-use Rattle.lists.proofs.Counts.{take-most}
 use Rattle.model.specs.Plan.{Lines}
 use Rattle.model.specs.Table.{Entry, entries-of}
-use Rattle.model.specs.Lookup.{Found, entry, none, before-row, run-of-row, row-length, row-start, row-part, fits, find}
+use Rattle.model.specs.Lookup.{Found, entry, none, before-row, run-of-row, row-length, row-start, fits, find}
 use Rattle.model.specs.Firmware.{words-of}
 use Rattle.c_words.proofs.Reading.{words-count}
 
@@ -89,7 +88,3 @@ row-within ws r =
       length-drop (before-row r es) es,
       start-most (eqb (5 * run-of-row r (drop (before-row r es) es)) 0) (5 * before-row r es),
     )
-
-pub part-within : (ws : List ℕ) (r : ℕ) → row-start ws r + length (row-part ws r) ≤ length ws
-unfolding row-part
-part-within ws r = omega (arith, row-within ws r, take-most (row-length ws r) (drop (row-start ws r) ws))

@@ -1,5 +1,6 @@
-pub mod Kernel
-pub mod KernelC
+pub mod Calls
 pub mod Sentences
+pub mod Kernel
 pub mod One
 pub mod Two
+pub mod Three

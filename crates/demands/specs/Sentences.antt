@@ -3,7 +3,7 @@
 -- Assumes nothing.
 use Prim.Native.Nat.{ℕ, _-_, _%_, _≤_, _<_}
 use mathlib.Core.Path.{_≡_}
-use mathlib.Core.Bool.{Bool, not}
+use mathlib.Core.Bool.{Bool, not, _||_}
 use mathlib.Core.List.{List, [], _∷_}
 use lib.Dec.{eqb, ltb}
 use lib.ListN.{length}
@@ -11,7 +11,8 @@ use Rattle.lists.specs.Lists.{any}
 use Rattle.model.specs.Plan.{Lines, edges}
 use Rattle.model.specs.Refusals.{Refusal, nothing, refused, sentence, wrong-counts, wrong-sizes, wrong-nodes, wrong-deciders, wrong-ends, twin-edges, wrong-when, too-long}
 use Rattle.model.specs.Text.{Means}
-use Rattle.model.specs.Table.{Result, entry-words, frame-words, entries-of}
+use Rattle.model.specs.Table.{Result, result, entry-words, frame-words, entries-of}
+use Rattle.model.specs.Listing.{plan-listing}
 use Rattle.model.specs.Checking.{ill-formed, in-some, not-once, uses-unknown, too-early, off-slot, overlap, share-byte, greatest-delay}
 
 -- a sentence of the list: its number, and whether it applies
@@ -47,6 +48,13 @@ bytes-sentences bytes lent = says 10 (ltb lent (length bytes)) ∷ []
 -- 10 and 11, on what the planner makes and the numbers of words lent for entries and for frames
 unfoldable pub room-sentences : Result → ℕ → ℕ → List Sentence
 room-sentences r words room = says 10 (ltb words (length (entry-words (r .entries)))) ∷ says 11 (ltb room (length (frame-words (r .frames)))) ∷ []
+
+-- 10 and 11, on the listing of a plan and the number of bytes lent: 3,000 entries and 2,000 frames are listed at most
+unfoldable pub listing-sentences : Lines → ℕ → List Sentence
+listing-sentences p lent =
+    says 10 (ltb 15000 (length (entry-words (result p .entries))) || ltb lent (length (plan-listing p)))
+    ∷ says 11 (ltb 6000 (length (frame-words (result p .frames))))
+    ∷ []
 
 -- 12 to 20, on a table's words and the delay stated for it
 unfoldable pub table-sentences : Lines → List ℕ → ℕ → List Sentence

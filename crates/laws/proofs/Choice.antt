@@ -13,7 +13,8 @@ use borrow.Author.Tests.{eqb-true, eqb-false}
 use Rattle.lists.specs.Lists.{first, greatest, repeated}
 use Rattle.lists.proofs.Tests.{at-most}
 use Rattle.lists.proofs.Members.{map-same, map-in, keep-in, below-in, if-in, first-in}
-use Rattle.lists.proofs.Sorting.{Ranked, Heavier, first-ranked, upfrom-ranked, sort-ranked}
+use Rattle.lists.specs.Ordered.{Ranked}
+use Rattle.lists.proofs.Sorting.{Heavier, first-ranked, upfrom-ranked, sort-ranked}
 use Rattle.model.specs.Plan.{Lines, Pick, by-urgency, by-number, process, processes, edge, edges, out-of}
 use Rattle.model.specs.Log.{Placed}
 use Rattle.model.specs.Planning.{urgencies-from, urgencies, weights-by, weights, dispatch-order, queue, View, free, candidate, start-at, unit-starts}

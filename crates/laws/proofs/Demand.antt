@@ -22,7 +22,7 @@ use Rattle.model.specs.Log.{Placed, Log, of-row, full-ticks, delivered, process
 use Rattle.model.specs.Table.{Entry, entries-of}
 use Rattle.model.specs.Checking.{Sound, met-log, greatest-delay}
 use Rattle.model.specs.Run.{Ask, whole-run}
-use Rattle.model.specs.Demand.{starts-of, Starts, Right, Within, Answered, Statement-3}
+use Rattle.model.specs.Demand.{starts-of, Starts, Right, Within, Answered, Sound-runs-right}
 use Rattle.laws.proofs.Combinations.{in-combinations, combination-length}
 use Rattle.laws.proofs.Good.{good}
 use Rattle.laws.proofs.Lawful.{in-ticks, row-count, due-once}
@@ -160,6 +160,6 @@ module _ (p : Lines) (words : List ℕ) (stated : ℕ) (ask : Ask) (sound : Soun
       let l : length (y .0) ≡ length (p .conditions) = combination-length p (y .0) (y .1) in
       (y .0, l, run-delay (y .0) l ∙ y .2 ∙ sym (s .worst))
 
-pub demand-3 : Statement-3
-demand-3 p words stated ask sound told =
+pub sound-runs-right : Sound-runs-right
+sound-runs-right p words stated ask sound told =
     record { right = λ c times cl within. run-right p words stated ask sound told c cl times within; exact = exact p words stated ask sound told }

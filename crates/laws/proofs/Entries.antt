@@ -11,9 +11,9 @@ use lib.Dec.{eqb}
 use lib.ListN.{length, getD}
 use borrow.Author.Tests.{eqb-true, eq-eqb}
 use Rattle.lists.specs.Lists.{if_then_else_, each, below}
-use Rattle.lists.specs.Ordered.{order, same}
+use Rattle.lists.specs.Ordered.{same, order, Ascending}
 use Rattle.lists.proofs.Members.{map-in, in-map, each-in, in-each, keep-in, in-keep, in-below}
-use Rattle.lists.proofs.Order.{Joining, Ascending, order-lt, order-same, ascending-each, put-all-ascends, put-all-in, in-put-all}
+use Rattle.lists.proofs.Order.{Joining, order-lt, order-same, ascending-each, put-all-ascends, put-all-in, in-put-all}
 use Rattle.model.specs.Plan.{Lines}
 use Rattle.model.specs.Activity.{Heard, heard, unheard, all-heard, combinations}
 use Rattle.model.specs.Bus.{rows, condition-row}

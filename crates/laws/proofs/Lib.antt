@@ -41,7 +41,7 @@
 --   Calls           the calls of a unit at a tick give exactly the entries that fit
 --   RunTick, RunHeard, RunLog   `run-matches`: a run of a sound table is, row by row, the entries that the combination
 -- meets
---   Demand          `demand-3`: demand 3 for every sound table, in one theorem
+--   Demand          `sound-runs-right`: every run of a sound table is right, in one theorem
 --
 -- The planner's own table
 --   Entries         its entries are in order, and equal row, known and values make equal entries (`equal-places`)

@@ -12,7 +12,8 @@ use Rattle.lists.specs.Lists.{greatest, repeated}
 use Rattle.lists.proofs.Tests.{two, both, or-none, and-none, no}
 use Rattle.lists.proofs.Members.{map-same, any-members, keep-in}
 use Rattle.lists.proofs.Keep.{map-map}
-use Rattle.lists.proofs.Order.{Ascending, ascending-keep, ascending-different, put-all-ascends}
+use Rattle.lists.specs.Ordered.{Ascending}
+use Rattle.lists.proofs.Order.{ascending-keep, ascending-different, put-all-ascends}
 use Rattle.lists.proofs.Sums.{greatest-le, greatest-in}
 use Rattle.model.specs.Plan.{Lines, local}
 use Rattle.model.specs.Activity.{Heard, all-heard, combinations, carries}
@@ -23,11 +24,11 @@ use Rattle.model.specs.Refusals.{nothing, plan-refusal}
 use Rattle.model.specs.Table.{Entry, known-bits, bits-within, column-met, entry-of, key, Planned, plans, frame-key, wider, frames, result, entry-words}
 use Rattle.model.specs.Checking.{ill-formed, own, met-entries, met-log, due, greatest-delay, Sound}
 use Rattle.model.specs.Run.{Ask}
-use Rattle.model.specs.Demand.{Answered, Demand-3}
+use Rattle.model.specs.Demand.{Answered, Runs-right}
 use Rattle.laws.proofs.Bound.{bound-small}
 use Rattle.laws.proofs.Columns.{within-same, values-within, known-small}
 use Rattle.laws.proofs.Combinations.{combination-length}
-use Rattle.laws.proofs.Demand.{demand-3}
+use Rattle.laws.proofs.Demand.{sound-runs-right}
 use Rattle.laws.proofs.Entries.{final, Made, entries-in, entries-ascend, met-made, made-in, made-met, one-a-row}
 use Rattle.laws.proofs.Good.{Good, good}
 use Rattle.laws.proofs.History.{history, was-started}
@@ -202,8 +203,8 @@ own-table-sound p fine =
     let es : List Entry = result p .entries in
     sound-iff p (entry-words es) (result p .delay) .1 (fine, (let q = entry-words-count es in omega arith), rw (entries-back es) (own-lawful p fine))
 
-pub planned-runs : (p : Lines) (ask : Ask) → plan-refusal p ≡ nothing → Answered p (entry-words (result p .entries)) ask → Demand-3 p (entry-words (result p .entries)) (result p .delay) ask
-planned-runs p ask fine told = demand-3 p (entry-words (result p .entries)) (result p .delay) ask (own-table-sound p fine) told
+pub planned-runs : (p : Lines) (ask : Ask) → plan-refusal p ≡ nothing → Answered p (entry-words (result p .entries)) ask → Runs-right p (entry-words (result p .entries)) (result p .delay) ask
+planned-runs p ask fine told = sound-runs-right p (entry-words (result p .entries)) (result p .delay) ask (own-table-sound p fine) told
 
 pub frames-ascend : (p : Lines) → Ascending frame-key (result p .frames)
 unfolding result frames frame-key wider

@@ -123,6 +123,10 @@ PRINTEDWORDS = 15000
 abbrev pub PRINTEDFRAMEWORDS : ℕ
 PRINTEDFRAMEWORDS = 6000
 
--- The bytes that it lends for a listing: no listing of so many entries and frames has more.
+-- The words that hold the frame list of as many entries: an entry is in one frame at most
+abbrev pub ENTRYFRAMEWORDS : ℕ
+ENTRYFRAMEWORDS = 9000
+
+-- The bytes that it lends for a listing: no listing of as many entries has more
 abbrev pub LISTING : ℕ
-LISTING = 388100
+LISTING = 426100

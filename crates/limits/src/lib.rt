@@ -62,5 +62,7 @@ pub const TEXT: usize = 16384;
 pub const PRINTEDWORDS: usize = 5 * 3000;
 // "and 2,000 frames": the words that it lends for the frame list.
 pub const PRINTEDFRAMEWORDS: usize = 3 * 2000;
-// The bytes that it lends for a listing: no listing of so many entries and frames has more.
-pub const LISTING: usize = 388100;
+// The words that hold the frame list of as many entries: an entry is in one frame at most.
+pub const ENTRYFRAMEWORDS: usize = 3 * 3000;
+// The bytes that it lends for a listing: no listing of as many entries has more.
+pub const LISTING: usize = 426100;

@@ -1,3 +1,2 @@
--- Laws of what a listing answers (Written), and of the model's listing (Printed).
+-- Laws of what a listing answers (Written).
 pub mod Written
-pub mod Printed

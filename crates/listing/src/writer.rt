@@ -100,7 +100,7 @@ fn put_listing<'a>(
     ))
 }
 
-// Stores the line of a refusal that the lent bytes have room for: its label and number through the line writer.
+// Stores the line of a refusal that the lent bytes have room for.
 fn put_refusal(out: &mut [u8], number: u32) -> usize
     requires { ⌜ Fits (now out) 0 (refused-line number) ⌝ }
     ensures { λ r. ⌜ Put (now (out .entry)) (now (out .exit)) 0 r (refused-line number) ⌝ }

@@ -39,17 +39,26 @@ frames-none (a ∷ b ∷ []) h = refl
 frames-none (a ∷ b ∷ c ∷ ws) h = absurd (omega arith)
 
 module _ (ws : List ℕ) (i : ℕ) where
+  pub entries-from : i ≤ length ws → 4 < length ws - i →
+      entries-of (drop i ws)
+      ≡ record { row = getD ws i 0; known = getD ws (i + 1) 0; values = getD ws (i + 2) 0; tick = getD ws (i + 3) 0; place = getD ws (i + 4) 0 }
+      ∷ entries-of (drop (i + 5) ws)
+  entries-from l h =
+      let z : i + 0 ≡ i = omega arith in
+      entries-next (drop i ws) (omega (arith, length-drop i ws))
+      ∙ rw (drop-drop 5 i ws, getD-drop i ws 0 0, getD-drop i ws 1 0, getD-drop i ws 2 0, getD-drop i ws 3 0, getD-drop i ws 4 0, z)
+
+  pub entries-past : (4 < length ws - i → ⊥) → entries-of (drop i ws) ≡ []
+  entries-past h = entries-none (drop i ws) (omega (arith, length-drop i ws))
+
   pub entries-at : (f : Entry → List ℕ) → i ≤ length ws → 4 < length ws - i →
       each f (entries-of (drop i ws))
       ≡ f (record { row = getD ws i 0; known = getD ws (i + 1) 0; values = getD ws (i + 2) 0; tick = getD ws (i + 3) 0; place = getD ws (i + 4) 0 })
       ++ each f (entries-of (drop (i + 5) ws))
-  entries-at f l h =
-      let z : i + 0 ≡ i = omega arith in
-      ap (each f) (entries-next (drop i ws) (omega (arith, length-drop i ws)))
-      ∙ rw (drop-drop 5 i ws, getD-drop i ws 0 0, getD-drop i ws 1 0, getD-drop i ws 2 0, getD-drop i ws 3 0, getD-drop i ws 4 0, z)
+  entries-at f l h = ap (each f) (entries-from l h)
 
   pub entries-end : (f : Entry → List ℕ) → (4 < length ws - i → ⊥) → each f (entries-of (drop i ws)) ≡ []
-  entries-end f h = ap (each f) (entries-none (drop i ws) (omega (arith, length-drop i ws)))
+  entries-end f h = ap (each f) (entries-past h)
 
   pub frames-at : (f : Frame → List ℕ) → i ≤ length ws → 2 < length ws - i →
       each f (frames-of (drop i ws)) ≡ f (record { tick = getD ws i 0; node = getD ws (i + 1) 0; used = getD ws (i + 2) 0 }) ++ each f (frames-of (drop (i + 3) ws))

@@ -7,10 +7,10 @@ use mathlib.Core.Logic.{_⊎_, inl, inr}
 use mathlib.Core.List.{List, [], _++_, append-assoc}
 use Prim.Native.Nat.{ℕ, _+_, _-_, _≤_, _<_}
 use native.Mathlib.Omega.{arith}
-use borrow.Author.Tests.{ltb-true, ltb-false}
-use lib.Dec.{ltb}
+use borrow.Author.Tests.{ltb-true, ltb-false, eqb-true}
+use lib.Dec.{ltb, eqb}
 use lib.ListN.{length, drop, getD, length-append}
-use Rattle.lists.proofs.Tests.{two}
+use Rattle.lists.proofs.Tests.{two, both}
 use Rattle.model.specs.Text.{text, decimal}
 use Rattle.text_lines.specs.Label.{labelled}
 use Rattle.listing_count.specs.Parts.{values-from, column-of, start-of, item-of, entry-of, entry-text, entries-text}
@@ -18,7 +18,7 @@ use Rattle.listing_count.proofs.Words.{entries-at}
 use Rattle.listing_count.proofs.Cases.{entry-start, entry-send, entry-tell, entry-none}
 use Rattle.listing_entries.specs.Lines.{begin-by, begin-of, end-of, line-at}
 use Rattle.listing_entries.proofs.LineEnds.{begin-length, begin-start, begin-send, begin-tell, begin-none, end-start, end-item}
-use Rattle.listing_entries.specs.Runs.{Lined, Alike}
+use Rattle.listing_entries.specs.Runs.{of-run, run-of, entry-from, Lined}
 
 regroup : (a w v t e : List ℕ) → a ++ ((w ++ (v ++ t)) ++ e) ≡ (a ++ w) ++ (v ++ (t ++ e))
 regroup a w v t e = simp append-assoc
@@ -100,13 +100,19 @@ module _ (processes edges conditions : ℕ) (table : List ℕ) (i : ℕ) where
   abbrev values : ℕ
   values = getD table (i + 2) 0
 
-  pub run-next : {first : ℕ} {begin last : List ℕ} → Alike table first i →
+  pub run-next : (first : ℕ) {begin last : List ℕ} → i + 5 ≤ length table → run-of table first (entry-from table i) ≡ true →
       Lined processes edges conditions (getD table first 0) (getD table (first + 3) 0) (getD table (first + 4) 0) begin last →
       entries-text processes edges conditions (drop i table) ≡ line-at begin last conditions table i ++ rest
-  run-next {first} {begin} {last} s m =
+  unfolding of-run
+  run-next first {begin} {last} enough s m =
+      let b = both (eqb (getD table i 0) (getD table first 0)) _ s in
+      let d = both (eqb (getD table (i + 3) 0) (getD table (first + 3) 0)) _ (b .1) in
+      let row-same = eqb-true (getD table i 0) (getD table first 0) (b .0) in
+      let tick-same = eqb-true (getD table (i + 3) 0) (getD table (first + 3) 0) (d .0) in
+      let place-same = eqb-true (getD table (i + 4) 0) (getD table (first + 4) 0) (d .1) in
       let e : entry-of processes edges conditions (getD table i 0) known values (getD table (i + 3) 0) (getD table (i + 4) 0) ≡ line-at begin last conditions table i =
-      rw (s .row-same, s .tick-same, s .place-same) (m .line known values) in
-      entries-at table i (entry-text processes edges conditions) (omega (arith, s .enough)) (omega (arith, s .enough)) ∙ ap (λ (line : List ℕ). line ++ rest) e
+      rw (row-same, tick-same, place-same) (m .line known values) in
+      entries-at table i (entry-text processes edges conditions) (omega (arith, enough)) (omega (arith, enough)) ∙ ap (λ (line : List ℕ). line ++ rest) e
 
   pub run-none : i + 5 ≤ length table → length (begin-of processes edges conditions (getD table i 0)) ≡ 0 → entries-text processes edges conditions (drop i table) ≡ rest
   run-none enough none =

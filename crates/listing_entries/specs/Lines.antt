@@ -1,10 +1,9 @@
 -- How the lines of a row of a table begin and end, and the line of an entry that begins and ends as given.
 -- Assumes nothing.
-use Prim.Native.Nat.{ℕ, _+_, _-_, _≤_}
-use mathlib.Core.Path.{_≡_}
+use Prim.Native.Nat.{ℕ, _+_, _-_}
 use mathlib.Core.List.{List, [], _++_}
 use lib.Dec.{ltb}
-use lib.ListN.{length, take, getD}
+use lib.ListN.{getD}
 use Rattle.lists.specs.Lists.{if_then_else_}
 use Rattle.model.specs.Text.{text, decimal}
 use Rattle.text_lines.specs.Label.{labelled}
@@ -29,11 +28,6 @@ begin-of processes edges conditions row =
 unfoldable pub end-of : ℕ → ℕ → ℕ → ℕ → List ℕ
 end-of processes row tick place =
     if ltb row processes then labelled ") (at " tick ++ text "))\n" else labelled ") (at " tick ++ (labelled ") (place " place ++ text "))\n")
-
--- a text stands at the front of some bytes
-pub record Holds (bytes : List ℕ) (n : ℕ) (front : List ℕ) : Type 0 where
-  pub within : n ≤ length bytes
-  pub taken : take n bytes ≡ front
 
 -- the line of the entry from word i of a table on, which begins and ends as given
 abbrev pub line-at : List ℕ → List ℕ → ℕ → List ℕ → ℕ → List ℕ

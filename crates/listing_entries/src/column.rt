@@ -3,11 +3,13 @@ use limits::CONDITIONS;
 use listing_bytes::put_digit;
 use listing_bytes::put_labelled;
 use listing_bytes::put_word;
-ghost use Prim.Native.Nat.{_^_, _≤_, _<_};
-ghost use Rattle.limits.specs.Limits.{CONDITIONS, COMBINATIONS};
+ghost use mathlib.Core.Path.{_≡_};
+ghost use Prim.Native.Nat.{_<_};
+ghost use Rattle.limits.specs.Limits.{CONDITIONS};
 ghost use Rattle.text_lines.specs.Put.{Put};
 ghost use Rattle.listing_bytes.specs.Fits.{Fits};
 ghost use Rattle.listing_count.specs.Parts.{value-at, values-from};
+ghost use Rattle.listing_entries.specs.Sets.{sets-of};
 
 // Stores condition k of a column, if it is known: the lowest bits of `known` and `values` are its.
 fn put_value(out: &mut [u8], at: usize, known: u32, values: u32, k: u32) -> usize
@@ -80,7 +82,7 @@ fn put_six(out: &mut [u8], at: usize, known: u32, values: u32) -> usize
 
 // How many sets of known conditions a plan has, where it has at most six conditions; otherwise none.
 pub(crate) fn known_sets(conditions: usize) -> u32
-    ensures { λ r. ⌜ (r ≤ 64) × (r ≤ 2 ^ conditions) ⌝ }
+    ensures { λ r. ⌜ r ≡ sets-of conditions ⌝ }
 {
     if CONDITIONS < conditions {
         return 0;
@@ -115,8 +117,7 @@ pub(crate) fn put_values(
     known: u32,
     values: u32,
 ) -> usize
-    requires { ⌜ (sets ≤ COMBINATIONS) × (sets ≤ 2 ^ conditions) × Fits (now out) at
-        (values-from conditions known values 0) ⌝ }
+    requires { ⌜ (sets ≡ sets-of conditions) × Fits (now out) at (values-from conditions known values 0) ⌝ }
     ensures { λ r. ⌜ Put (now (out .entry)) (now (out .exit)) at r (values-from conditions known values 0) ⌝ }
 {
     if known < sets {

@@ -5,13 +5,14 @@ use listing_bytes::put_digits;
 use listing_bytes::put_labelled;
 use listing_bytes::put_long;
 use listing_bytes::put_word;
-ghost use Prim.Native.Nat.{_+_, _^_, _≤_};
+ghost use mathlib.Core.Path.{_≡_};
+ghost use Prim.Native.Nat.{_+_, _≤_};
 ghost use lib.ListN.{length};
-ghost use Rattle.limits.specs.Limits.{COMBINATIONS};
 ghost use Rattle.text_lines.specs.Label.{labelled};
 ghost use Rattle.text_lines.specs.Put.{Put};
 ghost use Rattle.listing_bytes.specs.Fits.{Fits};
-ghost use Rattle.listing_entries.specs.Lines.{begin-by, begin-of, end-of, line-at, Holds};
+ghost use Rattle.listing_entries.specs.Sets.{sets-of};
+ghost use Rattle.listing_entries.specs.Lines.{begin-by, begin-of, end-of, line-at};
 
 // Stores how a line begins, by its first word.
 fn put_begin(out: &mut [u8], label: &[u8], number: u32) -> usize
@@ -31,7 +32,7 @@ pub(crate) fn put_first(
     row: u32,
 ) -> usize
     requires { ⌜ 32 ≤ length (now out) ⌝ }
-    ensures { λ r. ⌜ Holds (now (out .exit)) r (begin-of processes edges conditions row) ⌝ }
+    ensures { λ r. ⌜ Put (now (out .entry)) (now (out .exit)) 0 r (begin-of processes edges conditions row) ⌝ }
 {
     let number = row as usize;
     if number < processes {
@@ -60,7 +61,7 @@ fn put_tick(out: &mut [u8], tick: u32) -> usize
 // Stores how the lines of a row end at the front of some bytes.
 pub(crate) fn put_end(out: &mut [u8], processes: usize, row: u32, tick: u32, place: u32) -> usize
     requires { ⌜ 48 ≤ length (now out) ⌝ }
-    ensures { λ r. ⌜ Holds (now (out .exit)) r (end-of processes row tick place) ⌝ }
+    ensures { λ r. ⌜ Put (now (out .entry)) (now (out .exit)) 0 r (end-of processes row tick place) ⌝ }
 {
     let end = put_tick(out, tick);
     if (row as usize) < processes {
@@ -81,7 +82,7 @@ pub(crate) fn put_line(
     table: &[u32],
     i: usize,
 ) -> usize
-    requires { ⌜ (8 ≤ length (now begin)) × (8 ≤ length (now last)) × (sets ≤ COMBINATIONS) × (sets ≤ 2 ^ conditions)
+    requires { ⌜ (8 ≤ length (now begin)) × (8 ≤ length (now last)) × (sets ≡ sets-of conditions)
         × (i + 5 ≤ length (now table)) × Fits (now out) at (line-at (now begin) (now last) conditions (now table) i) ⌝ }
     ensures { λ r. ⌜ Put (now (out .entry)) (now (out .exit)) at r
         (line-at (now (begin .entry)) (now (last .entry)) conditions (now (table .entry)) i) ⌝ }

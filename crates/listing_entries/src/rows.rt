@@ -6,14 +6,14 @@ use crate::lines::put_end;
 use crate::lines::put_first;
 use crate::lines::put_line;
 ghost use mathlib.Core.Path.{_≡_};
-ghost use mathlib.Core.Bool.{true};
-ghost use Prim.Native.Nat.{_+_, _^_, _≤_};
+ghost use Prim.Native.Nat.{_+_, _≤_};
 ghost use lib.ListN.{length, drop, getD};
-ghost use Rattle.limits.specs.Limits.{COMBINATIONS};
 ghost use Rattle.text_lines.specs.Put.{Put};
 ghost use Rattle.listing_bytes.specs.Fits.{Fits};
 ghost use Rattle.listing_count.specs.Parts.{entries-text};
-ghost use Rattle.listing_entries.specs.Runs.{Begun, Lined, Alike, Ran};
+ghost use Rattle.listing_entries.specs.Sets.{sets-of};
+ghost use Rattle.listing_entries.specs.Runs.{stands, of-row, run-of, run-entries, row-entries, same-entries};
+ghost use Rattle.listing_entries.specs.Runs.{Begun, Lined, Ran};
 
 // Where a run, or the runs of a row, end: in the lent bytes and in the words of the table.
 struct Run {
@@ -25,7 +25,7 @@ struct Run {
 // `first` on.
 fn alike(table: &[u32], first: usize, i: usize) -> bool
     requires { ⌜ (first + 5 ≤ length (now table)) × (i ≤ length (now table)) ⌝ }
-    ensures { λ r. ⌜ (r ≡ true → Alike (now (table .entry)) first i) ⌝ }
+    ensures { λ r. ⌜ r ≡ stands (run-of (now (table .entry)) first) (now (table .entry)) i ⌝ }
 {
     if table.len() - i < 5 {
         return false;
@@ -57,11 +57,11 @@ fn put_lines(
     first: usize,
 ) -> Run
     requires { ⌜ (first + 5 ≤ length (now table)) × Lined processes edges conditions (getD (now table) first 0)
-        (getD (now table) (first + 3) 0) (getD (now table) (first + 4) 0) (now begin) (now last) × (sets ≤ COMBINATIONS)
-        × (sets ≤ 2 ^ conditions) × Fits (now out) at (entries-text processes edges conditions (drop first (now table)))
-        ⌝ }
+        (getD (now table) (first + 3) 0) (getD (now table) (first + 4) 0) (now begin) (now last)
+        × (sets ≡ sets-of conditions)
+        × Fits (now out) at (entries-text processes edges conditions (drop first (now table))) ⌝ }
     ensures { λ r. ⌜ Ran processes edges conditions (now (table .entry)) (now (out .entry)) (now (out .exit)) at first
-        (r .end) (r .next) ⌝ }
+        (r .end) (r .next) (run-entries (now (table .entry)) first) ⌝ }
 {
     let mut end = at;
     let mut i = first;
@@ -87,10 +87,10 @@ fn put_run(
     first: usize,
 ) -> Run
     requires { ⌜ (first + 5 ≤ length (now table)) × Begun processes edges conditions (getD (now table) first 0)
-        (now begin) × (sets ≤ COMBINATIONS) × (sets ≤ 2 ^ conditions)
+        (now begin) × (sets ≡ sets-of conditions)
         × Fits (now out) at (entries-text processes edges conditions (drop first (now table))) ⌝ }
     ensures { λ r. ⌜ Ran processes edges conditions (now (table .entry)) (now (out .entry)) (now (out .exit)) at first
-        (r .end) (r .next) ⌝ }
+        (r .end) (r .next) (run-entries (now (table .entry)) first) ⌝ }
 {
     let row = table[first];
     let tick = table[first + 3];
@@ -114,8 +114,7 @@ fn put_run(
 // Whether an entry stands in a table from word i on that has the row of the one from word `first` on.
 fn same_row(table: &[u32], first: usize, i: usize) -> bool
     requires { ⌜ (first + 5 ≤ length (now table)) × (i ≤ length (now table)) ⌝ }
-    ensures { λ r. ⌜ (r ≡ true → (i + 5 ≤ length (now (table .entry)))
-        × (getD (now (table .entry)) i 0 ≡ getD (now (table .entry)) first 0)) ⌝ }
+    ensures { λ r. ⌜ r ≡ stands (of-row (getD (now (table .entry)) first 0)) (now (table .entry)) i ⌝ }
 {
     if table.len() - i < 5 {
         return false;
@@ -139,10 +138,10 @@ fn put_runs(
     first: usize,
 ) -> Run
     requires { ⌜ (first + 5 ≤ length (now table)) × Begun processes edges conditions (getD (now table) first 0)
-        (now begin) × (sets ≤ COMBINATIONS) × (sets ≤ 2 ^ conditions)
+        (now begin) × (sets ≡ sets-of conditions)
         × Fits (now out) at (entries-text processes edges conditions (drop first (now table))) ⌝ }
     ensures { λ r. ⌜ Ran processes edges conditions (now (table .entry)) (now (out .entry)) (now (out .exit)) at first
-        (r .end) (r .next) ⌝ }
+        (r .end) (r .next) (row-entries (now (table .entry)) first) ⌝ }
 {
     let mut end = at;
     let mut i = first;
@@ -177,10 +176,10 @@ fn put_row(
     table: &[u32],
     first: usize,
 ) -> Run
-    requires { ⌜ (first + 5 ≤ length (now table)) × (sets ≤ COMBINATIONS) × (sets ≤ 2 ^ conditions)
+    requires { ⌜ (first + 5 ≤ length (now table)) × (sets ≡ sets-of conditions)
         × Fits (now out) at (entries-text processes edges conditions (drop first (now table))) ⌝ }
     ensures { λ r. ⌜ Ran processes edges conditions (now (table .entry)) (now (out .entry)) (now (out .exit)) at first
-        (r .end) (r .next) ⌝ }
+        (r .end) (r .next) (same-entries processes edges conditions (now (table .entry)) first) ⌝ }
 {
     let mut begin = [0u8; 32];
     let long = put_first(&mut begin, processes, edges, conditions, table[first]);

@@ -15,7 +15,7 @@ use Rattle.model.specs.Table.{result, plan-answer, Answer, turned-down, 
 use Rattle.model.specs.Checking.{check}
 use Rattle.model.specs.Lookup.{row-part, lookup}
 use Rattle.model.specs.Text.{text, print, Written, wrote, not-written, write-plan}
-use Rattle.model.specs.Listing.{printed}
+use Rattle.model.specs.Listing.{printed, list-plan}
 use Rattle.model.specs.Firmware.{words-of, found-number}
 use Rattle.model.specs.Run.{run-before}
 use Rattle.model.specs.Demand.{starts-of}
@@ -32,6 +32,7 @@ pub data Question : Type 0 where
   lent : Lines → ℕ → ℕ → Question
   leaves : Lines → List ℕ → List ℕ → Question
   writes : Lines → ℕ → Question
+  lists-in : Lines → ℕ → Question
   checks : Lines → List ℕ → ℕ → Question
   row : List ℕ → ℕ → Question
   finds : Lines → List ℕ → ℕ → ℕ → ℕ → ℕ → ℕ → Question
@@ -68,6 +69,7 @@ outcome (leaves p ws fs) =
     let a : Answer = plan-answer p (lib.ListN.length ws) (lib.ListN.length fs) in
     list (table-after a ws ++ frames-after a fs)
 outcome (writes p n) = number (written-number (write-plan p n))
+outcome (lists-in p n) = number (written-number (list-plan p n))
 outcome (checks p ws d) = number (refusal-number (check p ws d))
 outcome (row ws r) = list (row-part ws r)
 outcome (finds p bytes n t h v from) = number (found-number (lookup p (words-of bytes) n t h v from))
@@ -234,6 +236,12 @@ answers =
     ∷ case (leaves (one-node by-urgency (all-of 0 7 ∷ [])) (9 ∷ 9 ∷ 9 ∷ 9 ∷ 9 ∷ 9 ∷ []) (8 ∷ [])) (list (0 ∷ 0 ∷ 0 ∷ 0 ∷ 0 ∷ 9 ∷ 8 ∷ []))
     ∷ case (writes S 464) (number 0)
     ∷ case (writes S 463) (number 10)
+    -- a listing in lent bytes, of which there are enough, one too few, and none for a plan that 9 refuses
+    ∷ case (lists-in S 392) (number 0)
+    ∷ case (lists-in S 391) (number 10)
+    ∷ case (lists-in (S-with 4 3) 0) (number 9)
+    -- S's table, by its words, and its frame list
+    ∷ case (leaves S (replicate 40 9) (replicate 9 8)) (list (words-S ++ 8 ∷ 0 ∷ 1 ∷ 16 ∷ 0 ∷ 1 ∷ 28 ∷ 1 ∷ 2 ∷ []))
     -- the row query: a row of two entries, none, a scattered row, stray words
     ∷ case (row words-S 3) (list (3 ∷ 1 ∷ 0 ∷ 17 ∷ 0 ∷ 3 ∷ 1 ∷ 1 ∷ 32 ∷ 0 ∷ []))
     ∷ case (row words-S 5) (list [])

@@ -49,10 +49,10 @@ Answered p words ask =
 -- Demand 3 of a plan, a table's words, a stated delay and the lookup's answers: "for every combination, and whatever
 -- time up to its ticks each process takes", the run is right; "If each takes its full ticks, some combination ends
 -- exactly at that delay."
-pub record Demand-3 (p : Lines) (words : List ℕ) (stated : ℕ) (ask : Ask) : Type 0 where
+pub record Runs-right (p : Lines) (words : List ℕ) (stated : ℕ) (ask : Ask) : Type 0 where
   pub right : (c : List Bool) (times : List ℕ) → length c ≡ length (p .conditions) → Within p times →
       Right p c times stated (whole-run p words ask c times)
   pub exact : (c : List Bool) × (length c ≡ length (p .conditions)) × (delay p (full-ticks p) (whole-run p words ask c (full-ticks p)) ≡ stated)
 
-abbrev pub Statement-3 : Type 0
-Statement-3 = (p : Lines) (words : List ℕ) (stated : ℕ) (ask : Ask) → Sound p words stated → Answered p words ask → Demand-3 p words stated ask
+abbrev pub Sound-runs-right : Type 0
+Sound-runs-right = (p : Lines) (words : List ℕ) (stated : ℕ) (ask : Ask) → Sound p words stated → Answered p words ask → Runs-right p words stated ask

@@ -1,14 +1,16 @@
 -- Document 01, "Table and frame list": what the planning program prints.
 -- Assumes nothing.
 use Prim.Native.Nat.{ℕ, _/_, _%_, _^_}
-use mathlib.Core.Bool.{Bool}
+use mathlib.Core.Bool.{Bool, _||_}
 use mathlib.Core.List.{List, [], _∷_, _++_}
 use lib.Dec.{eqb, ltb}
+use lib.ListN.{length}
 use Rattle.lists.specs.Lists.{if_then_else_, each, sum}
 use Rattle.model.specs.Plan.{Lines, conditions}
 use Rattle.model.specs.Bus.{rows, is-process, is-edge, row-edge, row-condition}
-use Rattle.model.specs.Table.{Entry, Frame, Answer, turned-down, made, entries-of, frames-of, plan-answer}
-use Rattle.model.specs.Text.{text, decimal, field, Reading, reads, not-read, Written, unless-refused, fitting}
+use Rattle.model.specs.Refusals.{Refusal, nothing, sentence, or-else, plan-refusal}
+use Rattle.model.specs.Table.{Entry, Frame, Answer, turned-down, made, result, entry-words, frame-words, entries-of, frames-of, plan-answer}
+use Rattle.model.specs.Text.{text, decimal, field, Reading, reads, not-read, Written, not-written, unless-refused}
 
 -- "conditions in a `when` are the plan's too and ascend strictly"
 unfoldable pub bit : ℕ → ℕ → Bool
@@ -62,6 +64,21 @@ unfoldable pub program-prints : Reading → List ℕ
 program-prints (not-read n) = refused-line n
 program-prints (reads p) = printed p (plan-answer p 15000 6000)
 
--- the listing put into lent bytes
-unfoldable pub write-listing : Lines → Answer → ℕ → Written
-write-listing p a lent = unless-refused (fitting lent (printed p a)) (printed p a)
+-- the listing of a plan: its worst delay, pass-over count, start table and frame list
+unfoldable pub plan-listing : Lines → List ℕ
+plan-listing p = printed p (made (result p))
+
+-- The listing of a plan in lent bytes, with 3,000 entries and 2,000 frames lent to the planner. 10: "The planner's
+-- entries need more words, or a written text more bytes, than lent"; 11: "Its frames need more words than lent."
+unfoldable pub listing-refusal : Lines → ℕ → Refusal
+listing-refusal p lent =
+    sentence 10 (ltb 15000 (length (entry-words (result p .entries))) || ltb lent (length (plan-listing p)))
+    (sentence 11 (ltb 6000 (length (frame-words (result p .frames)))) nothing)
+
+unfoldable pub list-plan : Lines → ℕ → Written
+list-plan p lent = unless-refused (or-else (plan-refusal p) (listing-refusal p lent)) (plan-listing p)
+
+-- the same by what a text reads as
+unfoldable pub list-reading : Reading → ℕ → Written
+list-reading (not-read n) lent = not-written n
+list-reading (reads p) lent = list-plan p lent

@@ -1,20 +1,21 @@
 -- The lines of an array that a count names: how many they are, what stands where, a column of them as an array of
--- numbers, and one more.
+-- numbers, and lines held at the front.
 -- Assumes nothing.
-use mathlib.Core.Path.{_≡_, sym, ap, _∙_}
+use mathlib.Core.Path.{_≡_, refl, sym, ap, _∙_}
 use mathlib.Core.Logic.{_⊎_, inl, inr}
 use mathlib.Core.Bool.{true, false}
 use mathlib.Core.List.{List, [], _∷_, _++_, map}
-use Prim.Native.Nat.{ℕ, _+_, _≤_, _<_, min}
-use native.Mathlib.Numerals.{add-one}
+use Prim.Native.Nat.{ℕ, _≤_, _<_, min}
 use native.Mathlib.Omega.{arith}
 use lib.Dec.{ltb}
-use lib.ListN.{length, getD, set, length-map, List·getD-eq-default}
-use lib.Seq.{getD-set-same, getD-set-other}
+use lib.ListN.{length, getD, take, drop, length-map, List·getD-append, List·getD-eq-default}
+use lib.Seq.{take-all}
 use borrow.Author.Tests.{ltb-true, ltb-false}
+use Rattle.lists.specs.Front.{front}
 use Rattle.lists.specs.Lists.{below, fill}
 use Rattle.lists.proofs.Tests.{two}
-use Rattle.lists.proofs.Keep.{length-upfrom, getD-upfrom, map-upfrom, map-append, below-last}
+use Rattle.lists.proofs.Keep.{length-upfrom, getD-upfrom, map-upfrom, map-map}
+use Rattle.lists.proofs.Places.{list-below}
 use Rattle.lists.proofs.Fill.{fill-at, fill-past}
 use Rattle.plan.specs.Memory.{counted}
 
@@ -41,11 +42,19 @@ module _ {A B : Type 0} (f : A → B) (d : A) (n : ℕ) (xs : List A) where
           fill-past size g n i (ltb-false i n t) ∙ sym z
           ∙ ap h (sym (List·getD-eq-default (counted f d n xs) (f d) (let l = ltb-false i n t in omega (arith, counted-length))))
 
-  pub counted-push : (x : A) → n < length xs → counted f d (n + 1) (set xs n x) ≡ counted f d n xs ++ (f x ∷ [])
-  unfolding counted
-  counted-push x l =
-      let g : ℕ → B = λ i. f (getD (set xs n x) i d) in
-      ap (λ (k : ℕ). map g (below k)) (add-one n)
-      ∙ ap (map g) (below-last n)
-      ∙ map-append g (below n) (n ∷ [])
-      ∙ (λ j. map-upfrom g (λ i. f (getD xs i d)) 0 n (λ k u v. ap f (getD-set-other xs n k x d (λ q. omega arith))) j ++ (f (getD-set-same xs n x d l j) ∷ []))
+-- Lines held at the front of an array that has room for them are the lines that their number names.
+pub counted-front : {A B : Type 0} (f : A → B) (d : A) (hold : B → A) → ((y : B) → f (hold y) ≡ y) → (ys : List B) (room : ℕ) (xs : List A) → length ys ≤ room →
+    counted f d (length ys) (front (take room (map hold ys)) xs) ≡ ys
+unfolding counted front
+counted-front {A} f d hold same ys room xs l =
+    let n : length (map hold ys) ≡ length ys = length-map ys hold in
+    ap (λ (zs : List A). map (λ i. f (getD (zs ++ drop (length zs) xs) i d)) (below (length ys))) (take-all room (map hold ys) (omega (arith, n)))
+    ∙ map-upfrom _ (λ i. f (getD (map hold ys) i d)) 0 (length ys) (λ k u v. ap f (List·getD-append (map hold ys) (drop (length (map hold ys)) xs) d k (omega (arith, n))))
+    ∙ sym (map-map f (λ i. getD (map hold ys) i d) (below (length ys)))
+    ∙ ap (map f) (list-below d (map hold ys) (length ys) n)
+    ∙ map-map f hold ys
+    ∙ back ys
+  where
+    back : (zs : List _) → map (λ y. f (hold y)) zs ≡ zs
+    back [] = refl
+    back (z ∷ zs) = λ i. same z i ∷ back zs i

@@ -22,6 +22,7 @@ use Rattle.plan.specs.declared.When.the-variants.{Always, True, False}
 use Rattle.plan.specs.declared.Plan.{Plan}
 use Rattle.plan.specs.Memory.{when-of, process-of, edge-of, no-slot, no-edge, counted, lines}
 use Rattle.plan.specs.Memory as memory
+use Rattle.plan.specs.Kinds.{kind-of, condition-of}
 use Rattle.plan.specs.Tables.{kind-number, condition-number, slots-table, processes-table, edges-table}
 use Rattle.plan.specs.Tests.{at, counts-test, outside-at, sizes-test, not-below-at, nodes-test, deciders-test, unordered-at, ends-test, key, undecided-by, wrong-when-at, slot-bytes, longer, too-long-at}
 use Rattle.plan.proofs.Counted.{counted-length, counted-at, column}
@@ -49,16 +50,6 @@ few p h =
       conditions = ltb-false 6 (p .conditions) (b .1);
       edges = ltb-false 128 (p .edges) (a .1);
     }
-
--- the kind and the condition of a `when`
-unfoldable pub kind-of : When → ℕ
-kind-of always = 0
-kind-of (on true k) = 1
-kind-of (on false k) = 2
-
-unfoldable pub condition-of : When → ℕ
-condition-of always = 0
-condition-of (on v k) = k
 
 same-kind : (x : w.When) → kind-number x ≡ kind-of (when-of x)
 unfolding kind-of

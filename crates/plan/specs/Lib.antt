@@ -1,3 +1,4 @@
 pub mod Memory
 pub mod Tables
 pub mod Tests
+pub mod Kinds

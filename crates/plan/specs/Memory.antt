@@ -41,6 +41,25 @@ process-of q = record { node = q .node; ticks = q .ticks; waits = waits-of (q .w
 abbrev pub edge-of : Edge → m.Edge
 edge-of e = record { from = e .from; to = e .to; bytes = e .bytes; when = when-of (e .when) }
 
+-- how a line is held in memory
+abbrev pub held-waits : m.Waits → Waits
+held-waits waits-all = All
+held-waits waits-any = Any
+
+abbrev pub held-when : m.When → When
+held-when always = Always
+held-when (on true k) = True k
+held-when (on false k) = False k
+
+abbrev pub held-slot : m.Slot → Slot
+held-slot s = record { node = s .node; bytes = s .bytes }
+
+abbrev pub held-process : m.Process → Process
+held-process q = record { node = q .node; ticks = q .ticks; waits = held-waits (q .waits) }
+
+abbrev pub held-edge : m.Edge → Edge
+held-edge e = record { from = e .from; to = e .to; bytes = e .bytes; when = held-when (e .when) }
+
 -- the lines of an array that a count names: a count above the array stands for empty lines past it
 abbrev pub no-slot : Slot
 no-slot = record { node = 0; bytes = 0 }

@@ -24,9 +24,10 @@ use Rattle.plan.specs.declared.tables.EdgeTable.{EdgeTable}
 use Rattle.plan.specs.declared.Waits as memory
 use Rattle.plan.specs.Memory.{waits-of, process-of, no-process, lines}
 use Rattle.plan.specs.Tests.{at}
+use Rattle.plan.specs.Kinds.{condition-of}
 use Rattle.plan.specs.Tables.{any-number, processes-table, edges-table}
 use Rattle.plan.proofs.Counted.{column}
-use Rattle.plan.proofs.TestsOnLines.{Few, condition-of, processes-length, edges-length, conditions-length, decider-at, process-node, process-ticks, edge-from, edge-to, edge-bytes, edge-condition}
+use Rattle.plan.proofs.TestsOnLines.{Few, processes-length, edges-length, conditions-length, decider-at, process-node, process-ticks, edge-from, edge-to, edge-bytes, edge-condition}
 use Rattle.plan_order.proofs.OrdersOfModel.{counts}
 use Rattle.plan_index.specs.Layout.{Small}
 

@@ -14,7 +14,7 @@ use Rattle.lists.specs.Lists.{if_then_else_}
 use Rattle.lists.proofs.Tests.{two}
 use Rattle.model.specs.Plan.{Lines, When, always, on}
 use Rattle.model.specs.Listing.{bit}
-use Rattle.plan.proofs.TestsOnLines.{kind-of, condition-of}
+use Rattle.plan.specs.Kinds.{kind-of, condition-of}
 use Rattle.log_queries.specs.Holding.{known-row, met-in}
 use Rattle.plan_index.specs.Unmet.{differs, unmet-of, value-of}
 use Rattle.plan_index.specs.LineArrays.{receiver-of, knownby-of}

@@ -20,7 +20,7 @@ use Rattle.model.specs.Activity.{combinations, says-any, conjunction}
 use Rattle.model.specs.Bus.{slot-ticks, slot-of, rows, sender, row-node, row-bytes, transit}
 use Rattle.model.specs.Log.{full-ticks, span}
 use Rattle.model.specs.Planning.{dispatch-order, queue}
-use Rattle.model.specs.Refusals.{outside, nothing, wrong-counts, wrong-sizes, no-node, wrong-nodes, plan-refusal}
+use Rattle.model.specs.Refusals.{nothing, wrong-counts, wrong-sizes, no-node, wrong-nodes, plan-refusal}
 use Rattle.laws.proofs.Good.{pass}
 use Rattle.laws.proofs.Slots.{slot-ticks-one, slot-own}
 use Rattle.laws.proofs.Rows.{sender-in, full-tick, process-span, item-span}
@@ -32,18 +32,17 @@ use Rattle.plan.proofs.TestsOnLines.{processes-length, edges-length, conditions
 use Rattle.log_queries.specs.Reading.{edges-into}
 use Rattle.log_queries.specs.Holding.{known-row, met-in}
 use Rattle.plan_order.specs.declared.orders.Orders.{Orders}
-use Rattle.plan_order.specs.Orders.{Ordered}
+use Rattle.plan_order.proofs.OrdersOfModel.{Ordered}
 use Rattle.bus_timetable.specs.declared.Timetable.{Timetable}
-use Rattle.bus_timetable.specs.Bus.{Timed}
+use Rattle.bus_timetable.proofs.TimetableOfModel.{Timed, some-slot}
 use Rattle.bitset.proofs.Numbered.{combination-bit}
 use Rattle.plan_index.specs.Unmet.{unmet-of, value-of, unmet-by}
 use Rattle.plan_index.specs.LineArrays.{receiver-of, knownby-of, as-any-of, as-any-by-process, known-rows-by-edge, remote-by-edge}
-use Rattle.plan_index.specs.RowArrays.{process-of-row, senders-by-row, spans-by-row, sizes-by-row}
+use Rattle.plan_index.specs.RowArrays.{process-of-row, span-of-row, size-of-row, senders-by-row, spans-by-row, sizes-by-row}
 use Rattle.plan_index.specs.Layout.{index-of}
 use Rattle.plan_index.specs.Indexed.{Indexed}
 use Rattle.plan_index.proofs.RowBounds.{senders-small}
 use Rattle.plan_index.proofs.OrderParts.{null-same, part-same}
-use Rattle.plan_index.proofs.Lengths.{Long}
 use Rattle.plan_index.proofs.Columns.{any-of, facts, few, process-any, no-process-at, no-edge-at, node-small, ticks-small, from-small, bytes-small, names-small, decider-same, decider-small}
 use Rattle.plan_index.proofs.EdgesOfModel.{receiver-same, knownby-same, met-same}
 
@@ -52,14 +51,14 @@ not-not true = refl
 not-not false = refl
 
 -- a process counts as `any`
-asany-same : (w : Waits) (a b : ℕ) → not (eqb (as-any-of (any-of w) a b) 0) ≡ (says-any w && ltb a b)
+asany-same : (w : Waits) (a b : ℕ) → as-any-of (any-of w) a b ≡ if says-any w && ltb a b then 1 else 0
 unfolding any-of
 asany-same waits-all a b = refl
-asany-same waits-any a b = by (ltb a b)
-  where
-    by : (t : Bool) → not (eqb (if t then 1 else 0) 0) ≡ t
-    by true = refl
-    by false = refl
+asany-same waits-any a b = refl
+
+one-same : (b : Bool) → not (eqb (if b then 1 else 0) 0) ≡ b
+one-same true = refl
+one-same false = refl
 
 -- the row that makes a `when` known is a row
 knownby-small : (kind from row : ℕ) → from < 64 → row < 198 → knownby-of kind from row < 198
@@ -79,33 +78,36 @@ receiver-small a b l = by (eqb a b)
 
 module _ (p : Plan) (h : plan-refusal (lines p) ≡ nothing) where
   -- the processes' and edges' rows, by the plan's counts
-  abbrev conditionrow : ℕ
+  abbrev pub conditionrow : ℕ
   conditionrow = p .processes + p .edges
 
-  abbrev all-rows : ℕ
+  abbrev pub all-rows : ℕ
   all-rows = p .processes + p .edges + p .conditions
 
-  abbrev decided-by : List ℕ
+  abbrev pub decided-by : List ℕ
   decided-by = fill 6 (at (p .condition)) (p .conditions)
 
-  row-count : all-rows ≡ rows (lines p)
+  pub row-count : all-rows ≡ rows (lines p)
   row-count = sym (λ j. processes-length p j + edges-length p j + conditions-length p j)
 
   few-rows : all-rows ≤ 198
   few-rows = let f = few p h in omega (arith, f .processes, f .edges, f .conditions)
 
-  node-of : {i k : ℕ} → i ≡ k → at (processes-table p .node) i ≡ process (lines p) k .node
+  pub node-of : {i k : ℕ} → i ≡ k → at (processes-table p .node) i ≡ process (lines p) k .node
   node-of {i} e = process-node p (few p h) i ∙ ap (λ (k : ℕ). process (lines p) k .node) e
 
   -- by edge
+  pub known-row-at : (e : ℕ) →
+      knownby-of (at (edges-table p .kind) e) (at (edges-table p .from) e) (conditionrow + at (edges-table p .condition) e) ≡ known-row (lines p) (edge (lines p) e .from) (edge (lines p) e .when)
+  known-row-at e =
+      (λ j. knownby-of (edge-kind p (few p h) e j) (edge-from p (few p h) e j) (sym (processes-length p) j + sym (edges-length p) j + edge-condition p (few p h) e j))
+      ∙ knownby-same (lines p) (edge (lines p) e .from) (edge (lines p) e .when)
+
   known-rows : (e : ℕ) →
       at (known-rows-by-edge (edges-table p .kind) (edges-table p .condition) (edges-table p .from) (p .edges) conditionrow) e ≡ known-row (lines p) (edge (lines p) e .from) (edge (lines p) e .when)
   unfolding known-rows-by-edge
   known-rows =
-      fill-each (λ e x. x ≡ known-row (lines p) (edge (lines p) e .from) (edge (lines p) e .when)) 128 _ (p .edges) (few p h .edges)
-      (λ e l.
-      (λ j. knownby-of (edge-kind p (few p h) e j) (edge-from p (few p h) e j) (sym (processes-length p) j + sym (edges-length p) j + edge-condition p (few p h) e j))
-      ∙ knownby-same (lines p) (edge (lines p) e .from) (edge (lines p) e .when))
+      fill-each (λ e x. x ≡ known-row (lines p) (edge (lines p) e .from) (edge (lines p) e .when)) 128 _ (p .edges) (few p h .edges) (λ e l. known-row-at e)
       (λ e l. sym (λ j. known-row (lines p) (no-edge-at p h e l j .from) (no-edge-at p h e l j .when)))
 
   met : (c : ℕ) → c < 2 ^ length (lines p .conditions) → (e : ℕ) →
@@ -156,7 +158,7 @@ module _ (p : Plan) (h : plan-refusal (lines p) ≡ nothing) where
       (omega arith)
 
   -- by row
-  process-same : (r : ℕ) → r < rows (lines p) → process-of-row (edges-table p .from) decided-by (p .processes) conditionrow r ≡ sender (lines p) r
+  pub process-same : (r : ℕ) → r < rows (lines p) → process-of-row (edges-table p .from) decided-by (p .processes) conditionrow r ≡ sender (lines p) r
   unfolding sender
   process-same r l = rw (processes-length p, edges-length p) (by (two (ltb r conditionrow)))
     where
@@ -176,12 +178,15 @@ module _ (p : Plan) (h : plan-refusal (lines p) ≡ nothing) where
   unfolding row-node
   node-in r l = facts p h .node-in (sender (lines p) r) (sender-in (lines p) (facts p h) r l)
 
-  sizes : (r : ℕ) → r < rows (lines p) → at (sizes-by-row (edges-table p .bytes) (p .processes) conditionrow all-rows) r ≡ row-bytes (lines p) r
-  unfolding sizes-by-row row-bytes
-  sizes r l =
-      fill-at 198 _ all-rows r few-rows (omega (arith, row-count))
-      ∙ (λ j. if ltb r (sym (processes-length p) j + sym (edges-length p) j) then at (edges-table p .bytes) (r - sym (processes-length p) j) else 1)
+  pub size-at : (r : ℕ) → size-of-row (edges-table p .bytes) (p .processes) conditionrow r ≡ row-bytes (lines p) r
+  unfolding row-bytes
+  size-at r =
+      (λ j. if ltb r (sym (processes-length p) j + sym (edges-length p) j) then at (edges-table p .bytes) (r - sym (processes-length p) j) else 1)
       ∙ (λ j. if ltb r (length (lines p .processes) + length (lines p .edges)) then edge-bytes p (few p h) (r - length (lines p .processes)) j else 1)
+
+  sizes : (r : ℕ) → r < rows (lines p) → at (sizes-by-row (edges-table p .bytes) (p .processes) conditionrow all-rows) r ≡ row-bytes (lines p) r
+  unfolding sizes-by-row
+  sizes r l = fill-at 198 _ all-rows r few-rows (omega (arith, row-count)) ∙ size-at r
 
   size-most : (r : ℕ) → at (sizes-by-row (edges-table p .bytes) (p .processes) conditionrow all-rows) r ≤ 64
   unfolding sizes-by-row
@@ -192,12 +197,6 @@ module _ (p : Plan) (h : plan-refusal (lines p) ≡ nothing) where
       by r false = omega arith
 
   -- the slots
-  some-slot : 1 ≤ length (lines p .slots)
-  unfolding plan-refusal wrong-counts outside
-  some-slot =
-      let a = neither _ _ (neither _ _ (neither _ _ (pass 2 _ _ h .0) .0) .0) in
-      ltb-false (length (lines p .slots)) 1 (neither _ _ (a .0) .0)
-
   slot-there : (n : ℕ) → n < length (lines p .slots) → In (slot-of (lines p) n) (lines p .slots)
   unfolding plan-refusal wrong-nodes no-node
   slot-there n l =
@@ -220,38 +219,36 @@ module _ (p : Plan) (h : plan-refusal (lines p) ≡ nothing) where
       let k : slot-of (lines p) n .bytes * lines p .byte ≤ 64 * 1000 = mul-le-mul (facts p h .slot-most (slot-of (lines p) n) (slot-there n l)) (facts p h .byte-most) in
       omega arith
 
-  module _ (o : Orders) (w : Ordered p o) (k : Long o) where
-    in-plan : {i : ℕ} → i < length (lines p .processes) → i < p .processes
-    in-plan l = omega (arith, processes-length p)
-
-    in-bus : {n : ℕ} → n < length (lines p .slots) → n < p .slots
-    in-bus l = omega (arith, slots-length p)
+  module _ (o : Orders) (w : Ordered (lines p) o) where
+    pub as-any-at : (i : ℕ) → i < p .processes → as-any-of (at (processes-table p .any) i) (at (o .intofirst) i) (at (o .intofirst) (i + 1)) ≡ if conjunction (lines p) i then 1 else 0
+    unfolding conjunction
+    as-any-at i l =
+        let empty = null-same (o .intofirst) (o .into) i (into (lines p) i) (w .into i (omega (arith, processes-length p))) (w .into-long) in
+        (λ j. as-any-of (process-any p h i j) (at (o .intofirst) i) (at (o .intofirst) (i + 1)))
+        ∙ asany-same (process (lines p) i .waits) (at (o .intofirst) i) (at (o .intofirst) (i + 1))
+        ∙ ap (λ (b : Bool). if says-any (process (lines p) i .waits) && b then 1 else 0) (sym (ap not empty ∙ not-not (ltb (at (o .intofirst) i) (at (o .intofirst) (i + 1)))))
 
     conjunctions : (i : ℕ) → not (eqb (at (as-any-by-process (processes-table p .any) (o .intofirst) (p .processes)) i) 0) ≡ conjunction (lines p) i
     unfolding as-any-by-process conjunction
     conjunctions =
-        fill-each (λ i x. not (eqb x 0) ≡ (says-any (process (lines p) i .waits) && not (null (into (lines p) i)))) 64 _ (p .processes) (few p h .processes)
-        (λ i l.
-        (λ j. not (eqb (as-any-of (process-any p h i j) (at (o .intofirst) i) (at (o .intofirst) (i + 1))) 0))
-        ∙ asany-same (process (lines p) i .waits) (at (o .intofirst) i) (at (o .intofirst) (i + 1))
-        ∙ ap (λ (b : Bool). says-any (process (lines p) i .waits) && b)
-        (sym (ap not (null-same (o .intofirst) (o .into) i (into (lines p) i) (w .into i l) (k .into)) ∙ not-not (ltb (at (o .intofirst) i) (at (o .intofirst) (i + 1))))))
+        fill-each (λ i x. not (eqb x 0) ≡ conjunction (lines p) i) 64 _ (p .processes) (few p h .processes)
+        (λ i l. ap (λ (x : ℕ). not (eqb x 0)) (as-any-at i l) ∙ one-same (conjunction (lines p) i))
         (λ i l. sym (λ j. says-any (no-process-at p h i l j .waits) && not (null (into (lines p) i))))
 
     leading : (i : ℕ) → i < length (lines p .processes) → edges-into (o .intofirst) (o .into) i ≡ into (lines p) i
     unfolding edges-into
-    leading i l = part-same (o .intofirst) (o .into) i (into (lines p) i) (w .into i (in-plan l)) (k .into)
+    leading i l = part-same (o .intofirst) (o .into) i (into (lines p) i) (w .into i l) (w .into-long)
 
     module _ (t : Timetable) (m : Timed (lines p) t) where
       lasts-most : (n : ℕ) → n < length (lines p .slots) → at (t .ticks) n ≤ 64000
       lasts-most n l = omega (arith, m .lasts n l, slot-most n l)
 
-      abbrev sent : List ℕ
+      abbrev pub sent : List ℕ
       sent = senders-by-row (edges-table p .from) decided-by (processes-table p .node) (p .processes) conditionrow all-rows
 
-      spans : (r : ℕ) → r < rows (lines p) → at (spans-by-row (processes-table p .ticks) (t .ticks) sent (p .processes) all-rows) r ≡ span (lines p) (full-ticks (lines p)) r
-      unfolding spans-by-row transit
-      spans r l = fill-at 198 _ all-rows r few-rows (omega (arith, row-count)) ∙ by (two (ltb r (p .processes)))
+      pub span-at : (r : ℕ) → r < rows (lines p) → span-of-row (processes-table p .ticks) (t .ticks) (p .processes) r (at sent r) ≡ span (lines p) (full-ticks (lines p)) r
+      unfolding transit
+      span-at r l = by (two (ltb r (p .processes)))
         where
           by : (ltb r (p .processes) ≡ true) ⊎ (ltb r (p .processes) ≡ false) →
               (if ltb r (p .processes) then at (processes-table p .ticks) r else at (t .ticks) (at sent r)) ≡ span (lines p) (full-ticks (lines p)) r
@@ -263,6 +260,10 @@ module _ (p : Plan) (h : plan-refusal (lines p) ≡ nothing) where
               let i = ltb-false r (p .processes) e in
               rw e
               (ap (at (t .ticks)) (senders r l) ∙ m .lasts (row-node (lines p) r) (node-in r l) ∙ sym (item-span (lines p) (full-ticks (lines p)) r (omega (arith, processes-length p))))
+
+      spans : (r : ℕ) → r < rows (lines p) → at (spans-by-row (processes-table p .ticks) (t .ticks) sent (p .processes) all-rows) r ≡ span (lines p) (full-ticks (lines p)) r
+      unfolding spans-by-row
+      spans r l = fill-at 198 _ all-rows r few-rows (omega (arith, row-count)) ∙ span-at r l
 
       span-most : (r : ℕ) → at (spans-by-row (processes-table p .ticks) (t .ticks) sent (p .processes) all-rows) r ≤ 100000
       unfolding spans-by-row
@@ -300,8 +301,8 @@ module _ (p : Plan) (h : plan-refusal (lines p) ≡ nothing) where
                 };
             receivers = receivers;
             remote-most = remote-most;
-            dispatch-order-of = λ n l. part-same (o .dispatchfirst) (o .dispatch) n _ (w .dispatch-order n (in-bus l)) (k .dispatch);
-            queue-of = λ n l. part-same (o .queuefirst) (o .queue) n _ (w .queue n (in-bus l)) (k .queue);
+            dispatch-order-of = λ n l. part-same (o .dispatchfirst) (o .dispatch) n _ (w .dispatch-order n l) (w .dispatch-long);
+            queue-of = λ n l. part-same (o .queuefirst) (o .queue) n _ (w .queue n l) (w .queue-long);
             rounds = m .rounds;
             offsets = m .offsets;
             lasts-of = m .lasts;
@@ -314,9 +315,9 @@ module _ (p : Plan) (h : plan-refusal (lines p) ≡ nothing) where
             into-firsts = w .into-places;
             dispatch-firsts = w .dispatch-places;
             queue-firsts = w .queue-places;
-            into-rising = λ i l. w .into i (in-plan l) .rising;
-            dispatch-rising = λ n l. w .dispatch-order n (in-bus l) .rising;
-            queue-rising = λ n l. w .queue n (in-bus l) .rising;
+            into-rising = λ i l. w .into i l .rising;
+            dispatch-rising = λ n l. w .dispatch-order n l .rising;
+            queue-rising = λ n l. w .queue n l .rising;
             dispatch-members = w .dispatch-numbers;
             queue-members = w .queue-numbers;
             node-small = node-small p h;
@@ -326,7 +327,7 @@ module _ (p : Plan) (h : plan-refusal (lines p) ≡ nothing) where
             few-edges = few p h .edges;
             few-conditions = few p h .conditions;
             few-slots = few p h .slots;
-            some-slot = omega (arith, some-slot, slots-length p);
+            some-slot = omega (arith, some-slot (lines p) h, slots-length p);
             bytes-most = bytes-small p h;
             size-most = size-most;
             ticks-most = ticks-small p h;

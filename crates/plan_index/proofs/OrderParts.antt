@@ -14,7 +14,7 @@ use Rattle.lists.specs.Lists.{null, upfrom}
 use Rattle.lists.proofs.Tests.{two}
 use Rattle.plan.specs.Tests.{at}
 use Rattle.log_queries.specs.Reading.{part}
-use Rattle.plan_order.specs.Groups.{Part}
+use Rattle.plan_order.proofs.Laying.{Part}
 
 slice-run : (xs : List ℕ) (n a b : ℕ) → a + n ≡ b → b ≤ length xs → slice a b xs ≡ map (at xs) (upfrom a n)
 slice-run xs zero a b q h = let e : a ≡ b = omega arith in ap (λ (k : ℕ). slice k b xs) e ∙ slice-empty b xs

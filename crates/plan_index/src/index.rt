@@ -26,8 +26,7 @@ ghost use Rattle.lists.specs.Lists.{fill};
 ghost use Rattle.model.specs.Refusals.{nothing, plan-refusal};
 ghost use Rattle.plan.specs.Memory.{lines};
 ghost use Rattle.plan.specs.Tests.{at};
-ghost use Rattle.plan_index.specs.Layout.{Small, index-of};
-ghost use Rattle.plan_index.specs.Indexed.{Indexed};
+ghost use Rattle.plan_index.specs.Layout.{Small, index-of, plan-index};
 
 // A plan laid out for planning.
 pub struct PlanIndex {
@@ -165,7 +164,7 @@ fn laid_out(
 // The plan index of a plan in which refusals 2 to 9 find nothing.
 pub fn of_plan(p: Plan) -> PlanIndex
     requires { ⌜ plan-refusal (lines p) ≡ nothing ⌝ }
-    ensures { λ r. ⌜ Indexed (lines p) r ⌝ }
+    ensures { λ r. ⌜ r ≡ plan-index (lines p) ⌝ }
 {
     let q = process_table(p);
     let e = edge_table(p);

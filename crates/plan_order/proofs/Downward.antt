@@ -1,19 +1,19 @@
 -- Urgencies from the last process down: what one store adds, and how great they are.
 -- Assumes nothing.
-use mathlib.Core.Path.{_≡_, ap, _∙_}
+use mathlib.Core.Path.{_≡_, refl, sym, ap, _∙_}
 use mathlib.Core.Logic.{_⊎_, inl, inr}
 use mathlib.Core.Bool.{true, false}
-use mathlib.Core.List.{List, [], _∷_, List·Memᴰ as In}
+use mathlib.Core.List.{List, [], _∷_, _++_, List·Memᴰ as In}
 use Prim.Native.Nat.{ℕ, zero, suc, _+_, _-_, _*_, _≤_, _<_}
 use native.Mathlib.Omega.{arith}
 use lib.Dec.{eqb}
-use lib.ListN.{length, getD, set, replicate, length-set, length-replicate}
-use lib.Seq.{getD-set-same, getD-set-other}
+use lib.ListN.{length, getD, set, replicate, length-append, length-set, length-replicate}
+use lib.Seq.{ext-getD, getD-set-same, getD-set-other}
 use borrow.Author.Tests.{eqb-true, eqb-false}
 use Rattle.lists.specs.Lists.{keep, below, greatest}
 use Rattle.lists.proofs.Tests.{two}
 use Rattle.lists.proofs.Members.{map-same, keep-in, below-in}
-use Rattle.lists.proofs.Fill.{zeros-at}
+use Rattle.lists.proofs.Fill.{zeros-at, padded-at}
 use Rattle.lists.proofs.Sums.{greatest-le}
 use Rattle.plan.specs.Tests.{at}
 use Rattle.plan_order.specs.Urgency.{Upward, after, urgencies-of}
@@ -22,6 +22,11 @@ module _ (ticks from to : ℕ → ℕ) (edges : ℕ) where
   -- an array holds the urgencies of m processes from process i on
   abbrev Holds : List ℕ → ℕ → ℕ → Type 0
   Holds u i m = (k : ℕ) → at u (i + k) ≡ getD (urgencies-of ticks from to edges i m) k 0
+
+  urgencies-length : (i n : ℕ) → length (urgencies-of ticks from to edges i n) ≡ n
+  unfolding urgencies-of
+  urgencies-length i zero = refl
+  urgencies-length i (suc n) = ap suc (urgencies-length (suc i) n)
 
   holds-start : (n : ℕ) → Holds (replicate 64 0) n 0
   unfolding urgencies-of
@@ -105,9 +110,13 @@ module _ (ticks from to : ℕ → ℕ) (edges n : ℕ) where
           holds = rw (e, m) (holds-next ticks from to edges up u (i - 1) (n - i) (omega (arith, s .long, s .inside)) (rw q (s .holds)));
         }
 
-  pub sofar-end : {u : List ℕ} {i : ℕ} → i ≤ 0 → Sofar u i → (k : ℕ) → at u k ≡ getD (urgencies-of ticks from to edges 0 n) k 0
-  sofar-end {u} {i} l s k =
+  pub sofar-end : {u : List ℕ} {i : ℕ} → n ≤ 64 → i ≤ 0 → Sofar u i → u ≡ urgencies-of ticks from to edges 0 n ++ replicate (64 - n) 0
+  sofar-end {u} {i} few l s =
       let q : i ≡ 0 = omega arith in
       let z : n - i ≡ n = omega arith in
+      let all : List ℕ = urgencies-of ticks from to edges 0 n in
+      ext-getD 0 u (all ++ replicate (64 - n) 0)
+      (omega (arith, s .long, length-append all (replicate (64 - n) 0), urgencies-length ticks from to edges 0 n, length-replicate {A = ℕ} (64 - n) 0))
+      (λ k b.
       let r : k ≡ i + k = omega arith in
-      ap (at u) r ∙ s .holds k ∙ (λ j. getD (urgencies-of ticks from to edges (q j) (z j)) k 0)
+      ap (at u) r ∙ s .holds k ∙ (λ j. getD (urgencies-of ticks from to edges (q j) (z j)) k 0) ∙ sym (padded-at all (64 - n) k))

@@ -1,3 +1,5 @@
+-- Laying (parts one behind the other in an array).
+pub mod Laying
 -- Gathering (groups in an array).
 pub mod Gathering
 -- Downward (urgencies from the last process down).

@@ -1,26 +1,32 @@
--- The fixed orders of planning: what each part of the arrays holds, in the words of the model.
+-- The fixed orders of planning, in the words of the model.
 -- Assumes nothing.
-use Prim.Native.Nat.{ℕ, _<_, _≤_}
+use Prim.Native.Nat.{ℕ}
 use mathlib.Core.Bool.{not, _&&_}
+use mathlib.Core.List.{List}
 use lib.Dec.{eqb}
+use lib.ListN.{length}
 use Rattle.lists.specs.Lists.{keep}
-use Rattle.model.specs.Plan.{process, edge, into, local, unit}
+use Rattle.model.specs.Plan.{Lines, process, edge, into, local, unit}
 use Rattle.model.specs.Planning.{dispatch-order, queue}
-use Rattle.plan.specs.declared.Plan.{Plan}
-use Rattle.plan.specs.Memory.{lines}
-use Rattle.plan.specs.Tests.{at}
 use Rattle.plan_order.specs.declared.orders.Orders.{Orders}
-use Rattle.plan_order.specs.Groups.{Part}
+use Rattle.plan_order.specs.Groups.{places, numbers}
 
-pub record Ordered (p : Plan) (o : Orders) : Type 0 where
-  pub into : (i : ℕ) → i < p .processes → Part (o .intofirst) (o .into) i (into (lines p) i)
-  pub dispatch-order : (u : ℕ) → u < p .slots → Part (o .dispatchfirst) (o .dispatch) u (keep (λ i. eqb (unit (lines p) i) u) (dispatch-order (lines p)))
-  pub queue : (n : ℕ) → n < p .slots →
-      Part (o .queuefirst) (o .queue) n (keep (λ e. eqb (process (lines p) (edge (lines p) e .from) .node) n && not (local (lines p) e)) (queue (lines p)))
-  -- every place is one of 128, and every number that of an edge or of a process, or 0
-  pub into-places : (k : ℕ) → at (o .intofirst) k ≤ 128
-  pub dispatch-places : (k : ℕ) → at (o .dispatchfirst) k ≤ 128
-  pub queue-places : (k : ℕ) → at (o .queuefirst) k ≤ 128
-  pub into-numbers : (j : ℕ) → at (o .into) j < 128
-  pub dispatch-numbers : (j : ℕ) → at (o .dispatch) j < 64
-  pub queue-numbers : (j : ℕ) → at (o .queue) j < 128
+-- the processes of a node in dispatch order
+abbrev pub dispatch-at : Lines → ℕ → List ℕ
+dispatch-at p u = keep (λ i. eqb (unit p i) u) (dispatch-order p)
+
+-- the messages of a node in the order of the queue
+abbrev pub queue-at : Lines → ℕ → List ℕ
+queue-at p n = keep (λ e. eqb (process p (edge p e .from) .node) n && not (local p e)) (queue p)
+
+-- the edges into each process, and the processes and the messages of each node in their order
+unfoldable pub orders-of : Lines → Orders
+orders-of p =
+    record {
+      intofirst = places (into p) (length (p .processes));
+      into = numbers (into p) (length (p .processes));
+      dispatchfirst = places (dispatch-at p) (length (p .slots));
+      dispatch = numbers (dispatch-at p) (length (p .slots));
+      queuefirst = places (queue-at p) (length (p .slots));
+      queue = numbers (queue-at p) (length (p .slots));
+    }

@@ -21,11 +21,11 @@ ghost use Rattle.model.specs.Refusals.{nothing, plan-refusal};
 ghost use Rattle.plan.specs.Memory.{lines};
 ghost use Rattle.plan.specs.Tests.{at};
 ghost use Rattle.plan_order.specs.Weights.{weights-of, sender-key};
-ghost use Rattle.plan_order.specs.Orders.{Ordered};
+ghost use Rattle.plan_order.specs.Orders.{orders-of};
 
 // The edges into process i stand in `into` from place `intofirst[i]` up to place `intofirst[i + 1]`, the processes of a
 // node in dispatch order in `dispatch` from `dispatchfirst`, and the messages of a node in the order of the queue in
-// `queue` from `queuefirst`.
+// `queue` from `queuefirst`. Behind the last of each stand zeros.
 pub struct Orders {
     pub intofirst: [u32; STARTS],
     pub into: [u32; EDGES],
@@ -91,7 +91,7 @@ fn sender_key(sender: u32, receiver: u32) -> u32
 // The orders of a plan in which refusals 2 to 9 find nothing.
 pub fn fixed_orders(p: Plan) -> Orders
     requires { ⌜ plan-refusal (lines p) ≡ nothing ⌝ }
-    ensures { λ r. ⌜ Ordered p r ⌝ }
+    ensures { λ r. ⌜ r ≡ orders-of (lines p) ⌝ }
 {
     let q = process_table(p);
     let e = edge_table(p);

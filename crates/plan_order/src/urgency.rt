@@ -5,8 +5,9 @@ use arrays::no_processes;
 use limits::EDGES;
 use limits::PROCESSES;
 ghost use mathlib.Core.Path.{_≡_};
-ghost use Prim.Native.Nat.{ℕ, _<_, _≤_};
-ghost use lib.ListN.{getD};
+ghost use mathlib.Core.List.{_++_};
+ghost use Prim.Native.Nat.{ℕ, _-_, _<_, _≤_};
+ghost use lib.ListN.{replicate};
 ghost use Rattle.limits.specs.Limits.{PROCESSES, EDGES, TICKS};
 ghost use Rattle.plan.specs.Tests.{at};
 ghost use Rattle.plan_order.specs.Urgency.{Upward, after, urgencies-of};
@@ -34,7 +35,7 @@ fn greatest_after<'a>(
 }
 
 // The urgency of each of n processes, from the last one down: its ticks and the greatest urgency among those its edges
-// lead to.
+// lead to. Zeros stand behind them.
 pub(crate) fn urgencies<'a>(
     ticks: &'a [u32; PROCESSES],
     n: usize,
@@ -44,8 +45,8 @@ pub(crate) fn urgencies<'a>(
 ) -> [u32; PROCESSES]
     requires { ⌜ n ≤ PROCESSES ⌝ ∗ ⌜ edges ≤ EDGES ⌝ ∗ ⌜ ((i : ℕ) → i < n → at (now ticks) i ≤ TICKS) ⌝
         ∗ ⌜ Upward (at (now from)) (at (now to)) edges ⌝ }
-    ensures { λ r. ⌜ ((k : ℕ) → at r k ≡ getD (urgencies-of (at (now (ticks .entry))) (at (now (from .entry)))
-        (at (now (to .entry))) edges 0 n) k 0) ⌝ }
+    ensures { λ r. ⌜ r ≡ urgencies-of (at (now (ticks .entry))) (at (now (from .entry))) (at (now (to .entry))) edges 0
+        n ++ replicate (PROCESSES - n) 0 ⌝ }
 {
     let mut urgency = no_processes();
     let mut i = n;

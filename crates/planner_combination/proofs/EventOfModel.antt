@@ -48,7 +48,12 @@ use Rattle.planner_packing.specs.Slot.{Bus, bus, filled, fill-by}
 use Rattle.planner_combination.specs.Events.{last-event, Moment, begun-by, begins-by, slot-at-by, send-slot-by, next-slot, event-by, hears, begins-with, sends-slot, waiting, moves, next, notes-below, note-by, notes}
 use Rattle.planner_combination.proofs.Ahead.{come-after, come-slotend, come-busy, event-come, event-slot, event-after}
 use Rattle.planner_combination.proofs.Noting.{notes-long, notes-at}
-use Rattle.planner_combination.proofs.Standing.{Slot-end, past, ahead, slot-end-later, At}
+use Rattle.planner_combination.specs.Standing.{Slot-end, past, ahead, At}
+
+-- a clock at which a slot ends stays one
+slot-end-later : (p : Lines) (t u x : ℕ) → t ≤ u → Slot-end p t x → Slot-end p u x
+slot-end-later p t u x l (past m) = past (omega arith)
+slot-end-later p t u x l (ahead s o m e b q) = ahead s o m e (omega arith) q
 
 plus-one : (x : ℕ) → x + 1 ≡ suc x
 plus-one x = omega arith

@@ -15,11 +15,9 @@ pub mod Queue
 pub mod NextSends
 pub mod Keeping
 pub mod WholeEvent
--- Planning from event to event is the planning of the model: Standing (what the arrays hold at an event), Noting (what
--- is noted as values become known), EventOfModel (what one event does to all that), Planned (where a run of events
--- leads).
+-- Planning from event to event is the planning of the model: Noting (what is noted as values become known),
+-- EventOfModel (what one event does to what the arrays hold, specs/Standing), Planned (where a run of events leads).
 -- EventRuns has what the proof of the loop rests on.
-pub mod Standing
 pub mod Noting
 pub mod EventOfModel
 pub mod Planned

@@ -30,7 +30,7 @@ use Rattle.planner_dispatch.proofs.Ends.{busy-none}
 use Rattle.plan_index.specs.declared.index.PlanIndex.{PlanIndex}
 use Rattle.plan_index.specs.Indexed.{Indexed}
 use Rattle.planner_combination.specs.Events.{last-event, Moment, next, Leads, over, on, from-clock}
-use Rattle.planner_combination.proofs.Standing.{past, At}
+use Rattle.planner_combination.specs.Standing.{past, At}
 use Rattle.planner_combination.proofs.EventOfModel.{at-next}
 
 -- planning from a clock on, where no item is under way

@@ -1,3 +1,4 @@
 pub mod Events
 pub mod Ending
 pub mod Kept
+pub mod Standing

@@ -30,7 +30,7 @@ use Rattle.laws.proofs.Sharing.{plan-in, row-before, row-after, row-never, ends
 use Rattle.log_queries.specs.Holding.{Row, absent, stands, Held}
 use Rattle.planner_dispatch.specs.Busy.{Busy}
 use Rattle.planner_combination.specs.Events.{from-clock}
-use Rattle.planner_combination.proofs.Standing.{At}
+use Rattle.planner_combination.specs.Standing.{At}
 use Rattle.planner_combination.proofs.Planned.{from-at}
 use Rattle.planner_prefix.specs.Prefix.{cut-at, cut, ends-below, no-value}
 

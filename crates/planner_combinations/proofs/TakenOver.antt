@@ -30,14 +30,14 @@ use Rattle.plan_index.specs.declared.index.PlanIndex.{PlanIndex}
 use Rattle.plan_index.specs.Unmet.{unmet-by}
 use Rattle.plan_index.specs.Indexed.{Indexed}
 use Rattle.planner_combination.specs.Events.{Ended, from-clock}
-use Rattle.planner_combination.proofs.Standing.{At}
+use Rattle.planner_combination.specs.Standing.{At}
 use Rattle.table_entries.specs.Logs.{block, numbered, plan-of}
 use Rattle.planner_prefix.specs.Stored.{Kept}
 use Rattle.planner_prefix.specs.declared.prefix.Source.{Source}
-use Rattle.planner_prefix.specs.Prefix.{no-value, arrival, cut, ends-below, Sourced, counts-from, notes-from, counts-at, Prefix-shared, begins, goes-on}
+use Rattle.planner_prefix.specs.Prefix.{no-value, arrival, cut, ends-below, source-among, counts-from, notes-from, counts-at, Prefix-shared, begins, goes-on}
 use Rattle.planner_combinations.specs.Combinations.{log-of, Ready, Earlier, Taken-over, One}
 use Rattle.table_entries.proofs.EntriesOfModel.{block-at}
-use Rattle.planner_prefix.proofs.Sources.{arrival-never, arrival-at, width, from-less, from-within, elsewhere}
+use Rattle.planner_prefix.proofs.Sources.{Sourced, sourced, arrival-never, arrival-at, width, from-less, from-within, elsewhere}
 use Rattle.planner_combinations.proofs.PrefixOfModel.{by-bound, prefix-until, prefix-never}
 use Rattle.planner_combinations.proofs.OnePlanned.{ready-first, Combination-planned, passes-few, passes-late, combination-of, stored-of}
 
@@ -213,21 +213,27 @@ module _ (p : Lines) (passes : plan-refusal p ≡ nothing) (b : PlanIndex) (o : 
   abbrev Resumes : Type 0
   Resumes = Prefix-shared (b .processes) (b .conditionrow) (b .conditions) (b .slots) c clock (b .node) (b .span) comes place notes rows places ends counts noted
 
+  abbrev source : Source
+  source = source-among comes (b .conditionrow) c (b .conditions)
+
+  source-of : 0 < c → Sourced comes (b .conditionrow) (b .conditions) c source
+  source-of some = sourced comes (b .conditionrow) c (b .conditions) some (subst (λ (n : ℕ). c < 2 ^ n) (sym (o .conditions-count)) l)
+
   pub prefix-ready : Ready p c clock ends rows places counts noted
   prefix-ready = at given
     where
       at : Resumes → Ready p c clock ends rows places counts noted
       at (begins z u r q f n m) = subst (λ (x : ℕ). Ready p c x ends rows places counts noted) (sym u) (ready-first p c ends rows places counts noted f r q n m)
-      at (goes-on t) =
+      at (goes-on some t) =
           subst (λ (x : ℕ). Ready p c x ends rows places counts noted) (sym (t .until))
-          (next-ready-of p passes b o c l comes place notes e (t .source) (t .sourced) ends rows places counts noted (t .rows-cut) (t .places-whole) (t .ends-last) (t .counts-then) (t .notes-then))
+          (next-ready-of p passes b o c l comes place notes e source (source-of some) ends rows places counts noted (t .rows-cut) (t .places-whole) (t .ends-last) (t .counts-then) (t .notes-then))
 
   pub prefix-few : (n : ℕ) → getD counts n 0 ≤ clock
   prefix-few n = at given
     where
       at : Resumes → getD counts n 0 ≤ clock
       at (begins z u r q f k m) = omega (arith, ap (λ (xs : List ℕ). getD xs n 0) k, zeros-at 8 n)
-      at (goes-on t) = omega (arith, t .until, ap (λ (xs : List ℕ). getD xs n 0) (t .counts-then), next-few p passes b o c l comes place notes e (t .source) (t .sourced) n)
+      at (goes-on some t) = omega (arith, t .until, ap (λ (xs : List ℕ). getD xs n 0) (t .counts-then), next-few p passes b o c l comes place notes e source (source-of some) n)
 
   prefix-taken : (rows-after places-after : List ℕ) → Held p (log-of p c) rows-after places-after → Taken-over p c rows-after (b .span) clock
   prefix-taken rows-after places-after h = at given
@@ -239,8 +245,8 @@ module _ (p : Lines) (passes : plan-refusal p ≡ nothing) (b : PlanIndex) (o : 
 
       at : Resumes → Taken-over p c rows-after (b .span) clock
       at (begins z u w q f k m) = λ r y some early. absurd (omega (arith, u, early, none r y (h .row r) some))
-      at (goes-on t) =
-          subst (λ (x : ℕ). Taken-over p c rows-after (b .span) x) (sym (t .until)) (next-taken p passes b o c l comes place notes e (t .source) (t .sourced) rows-after places-after h)
+      at (goes-on some t) =
+          subst (λ (x : ℕ). Taken-over p c rows-after (b .span) x) (sym (t .until)) (next-taken p passes b o c l comes place notes e source (source-of some) rows-after places-after h)
 
   pub one-of : (unmet : List ℕ) → unmet ≡ unmet-by (b .kind) (b .condition) (b .edges) c → {rows-after places-after counts-after noted-after : List ℕ} →
       Ended b unmet (from-clock clock ends rows places counts noted) rows-after places-after counts-after noted-after → {latest : ℕ} → latest ≡ last-end-by rows-after (b .processes) → (since passed : List ℕ) → length passed ≡ 8 →

@@ -19,7 +19,7 @@ use Rattle.log_queries.specs.Holding.{Held}
 use Rattle.plan_index.specs.declared.index.PlanIndex.{PlanIndex}
 use Rattle.plan_index.specs.Indexed.{Indexed}
 use Rattle.planner_combination.specs.Events.{from-clock}
-use Rattle.planner_combination.proofs.Standing.{At}
+use Rattle.planner_combination.specs.Standing.{At}
 use Rattle.table_entries.specs.Logs.{block, numbered, plan-of}
 use Rattle.planner_combinations.specs.declared.Totals.{Totals}
 

@@ -1,18 +1,19 @@
--- The combination that another takes over from: a loop over the conditions keeps the one whose value arrives last, and
--- it differs from the other in that condition alone.
+-- The combination that another takes over from: it lacks one condition of the other's, is earlier, and differs from it
+-- in that condition alone.
 -- Assumes nothing.
-use mathlib.Core.Path.{_≡_, refl, sym, ap, _∙_}
+use mathlib.Core.Path.{_≡_, refl, sym, ap, _∙_, subst, subst₂}
 use mathlib.Core.Logic.{_⊎_, inl, inr}
 use mathlib.Core.Bool.{Bool, true, false, false≢true, not, _||_, Bool·beq}
 use mathlib.Core.List.{List, []}
-use Prim.Native.Nat.{ℕ, suc, _+_, _-_, _*_, _/_, _%_, _^_, _≤_, _<_}
-use native.Mathlib.Nat.{pow-suc, pow-le-pow-right, div-div-eq-div-mul, div-eq-of-lt, mul-assoc, mul-comm, zero-mul}
+use Prim.Native.Nat.{ℕ, zero, suc, _+_, _-_, _*_, _/_, _%_, _^_, _≤_, _<_}
+use native.Mathlib.Nat.{pow-suc, pow-le-pow-right, div-one, div-div-eq-div-mul, div-eq-of-lt, mul-assoc, mul-comm, zero-mul}
 use native.Mathlib.Numerals.{add-one}
 use native.Mathlib.Omega.{arith}
 use lib.Dec.{eqb, leb}
 use lib.ListN.{length, getD, List·getD-eq-default}
 use lib.Pow.{pow-pos}
 use borrow.Author.Tests.{eq-eqb, ne-eqb, eqb-true, eqb-false, leb-true, leb-false}
+use Rattle.limits.specs.Limits.{ROWS}
 use Rattle.lists.specs.Lists.{if_then_else_, all, below}
 use Rattle.lists.proofs.Tests.{two}
 use Rattle.lists.proofs.Members.{all-in, in-below, in-getD}
@@ -23,7 +24,7 @@ use Rattle.laws.proofs.Combinations.{combination-length}
 use Rattle.bitset.proofs.Numbered.{combinations-count, combination-bit}
 use Rattle.table_entries.specs.Logs.{numbered}
 use Rattle.planner_prefix.specs.declared.prefix.Source.{Source}
-use Rattle.planner_prefix.specs.Prefix.{no-value, arrival, later-by, Sourced}
+use Rattle.planner_prefix.specs.Prefix.{no-value, arrival, later-by, source-among}
 
 -- a clock of arrival is one or more
 pub arrival-some : (x : ℕ) → 0 < arrival x
@@ -42,8 +43,16 @@ pub arrival-at : (x t : ℕ) → x ≡ suc t → arrival x ≡ suc t
 unfolding arrival
 arrival-at x t q = rw (ne-eqb x 0 (λ z. absurd (omega (arith, z, q)))) q
 
+-- Combination c takes over from one that lacks one of its conditions, up to the clock at which that condition's value
+-- arrives there.
+pub record Sourced (comes : List ℕ) (conditionrow conditions c : ℕ) (s : Source) : Type 0 where
+  pub condition-in : s .condition < conditions
+  pub value-set : bit c (s .condition) ≡ true
+  pub without : s .from ≡ c - 2 ^ s .condition
+  pub arrives : s .clock ≡ arrival (getD comes (s .from * ROWS + conditionrow + s .condition) 0)
+
 -- The best source of the conditions below k: none while no value is set, or one of them.
-pub data Best (comes : List ℕ) (conditionrow c k rest power : ℕ) (best : Source) : Type 0 where
+data Best (comes : List ℕ) (conditionrow c k rest power : ℕ) (best : Source) : Type 0 where
   none : best .clock ≡ 0 → c ≡ rest * power → Best comes conditionrow c k rest power best
   found : Sourced comes conditionrow k c best → Best comes conditionrow c k rest power best
 
@@ -69,7 +78,7 @@ module _ (comes : List ℕ) (conditionrow c : ℕ) where
   wider : (k : ℕ) (s : Source) → Sourced comes conditionrow k c s → Sourced comes conditionrow (k + 1) c s
   wider k s x = record { condition-in = omega (arith, x .condition-in); value-set = x .value-set; without = x .without; arrives = x .arrives }
 
-  pub best-next : (k rest power : ℕ) (best : Source) → power ≡ 2 ^ k → rest ≡ c / 2 ^ k → Best comes conditionrow c k rest power best →
+  best-next : (k rest power : ℕ) (best : Source) → power ≡ 2 ^ k → rest ≡ c / 2 ^ k → Best comes conditionrow c k rest power best →
       Best comes conditionrow c (k + 1) (rest / 2) (power * 2) (later-by comes conditionrow c k power (rest % 2) best)
   unfolding later-by bit
   best-next k rest power best p q s = at (two (eqb (rest % 2) 0)) (two (leb clock (best .clock)))
@@ -103,14 +112,23 @@ module _ (comes : List ℕ) (conditionrow c : ℕ) where
       at (inr e) (inl l) = rw (e, l) (stays s (leb-true clock (best .clock) l))
       at (inr e) (inr l) = rw (e, l) (found (own (eqb-false (rest % 2) 0 e)))
 
-  pub best-start : {best : Source} → best .clock ≡ 0 → Best comes conditionrow c 0 c 1 best
-  best-start z = none z (omega arith)
+  best-among : (k : ℕ) → Best comes conditionrow c k (c / 2 ^ k) (2 ^ k) (source-among comes conditionrow c k)
+  unfolding source-among
+  best-among zero = none refl (omega (arith, div-one c))
+  best-among (suc k) =
+      let s = source-among comes conditionrow c (suc k) in
+      subst (λ (n : ℕ). Best comes conditionrow c n (c / 2 ^ n) (2 ^ n) s) (add-one k)
+      (subst₂ (λ (rest power : ℕ). Best comes conditionrow c (k + 1) rest power s) (halved c k (c / 2 ^ k) refl) (doubled k (2 ^ k) refl)
+      (best-next k (c / 2 ^ k) (2 ^ k) (source-among comes conditionrow c k) refl refl (best-among k)))
 
-  pub best-end : (conditions rest power : ℕ) (best : Source) → 0 < c → c < 2 ^ conditions → rest ≡ c / 2 ^ conditions → Best comes conditionrow c conditions rest power best → Sourced comes conditionrow conditions c best
-  best-end conditions rest power best some l q (none z w) =
-      let e : rest ≡ 0 = q ∙ div-eq-of-lt l in
-      absurd (let v : c ≡ 0 = w ∙ ap (λ (x : ℕ). x * power) e ∙ zero-mul power in omega arith)
-  best-end conditions rest power best some l q (found x) = x
+  -- every combination but the first has a source
+  pub sourced : (conditions : ℕ) → 0 < c → c < 2 ^ conditions → Sourced comes conditionrow conditions c (source-among comes conditionrow c conditions)
+  sourced conditions some l = by (best-among conditions)
+    where
+      by : Best comes conditionrow c conditions (c / 2 ^ conditions) (2 ^ conditions) (source-among comes conditionrow c conditions) →
+          Sourced comes conditionrow conditions c (source-among comes conditionrow c conditions)
+      by (none z w) = absurd (let v : c ≡ 0 = w ∙ ap (λ (x : ℕ). x * 2 ^ conditions) (div-eq-of-lt l) ∙ zero-mul (2 ^ conditions) in omega arith)
+      by (found x) = x
 
 -- Two numbers below 64 of which one has a bit more have the same bits elsewhere, and the one is less: computed at each.
 same-elsewhere : ℕ → ℕ → ℕ → Bool

@@ -1,15 +1,13 @@
 -- What a combination takes over from an earlier one: the rows placed before a clock, by node the last end of a process
 -- among them, and the counts noted then.
 -- Assumes nothing.
-use Prim.Native.Nat.{ℕ, zero, suc, _+_, _-_, _*_, _^_, _<_, max}
+use Prim.Native.Nat.{ℕ, zero, suc, _+_, _-_, _*_, _/_, _%_, _^_, _<_, max}
 use mathlib.Core.Path.{_≡_}
-use mathlib.Core.Bool.{true}
 use mathlib.Core.List.{List}
 use lib.Dec.{eqb, leb, ltb}
 use lib.ListN.{getD, set, replicate}
 use Rattle.limits.specs.Limits.{ROWS, NEVER}
 use Rattle.lists.specs.Lists.{if_then_else_, fill}
-use Rattle.model.specs.Listing.{bit}
 use Rattle.table_entries.specs.Logs.{block}
 use Rattle.planner_prefix.specs.declared.prefix.Source.{Source}
 
@@ -45,13 +43,11 @@ later-by comes conditionrow c k power value best =
     let clock : ℕ = arrival (getD comes ((c - power) * ROWS + conditionrow + k) 0) in
     if eqb value 0 then best else if leb clock (best .clock) then best else record { from = c - power; condition = k; clock = clock }
 
--- Combination c takes over from one that lacks one of its conditions, up to the clock at which that condition's value
--- arrives there.
-pub record Sourced (comes : List ℕ) (conditionrow conditions c : ℕ) (s : Source) : Type 0 where
-  pub condition-in : s .condition < conditions
-  pub value-set : bit c (s .condition) ≡ true
-  pub without : s .from ≡ c - 2 ^ s .condition
-  pub arrives : s .clock ≡ arrival (getD comes (s .from * ROWS + conditionrow + s .condition) 0)
+-- Of the combinations that lack one condition of c's, one of the first k, that whose value arrives last there, the
+-- lowest condition where several do; the clock is 0 where c has none of them.
+unfoldable pub source-among : List ℕ → ℕ → ℕ → ℕ → Source
+source-among comes conditionrow c zero = record { from = 0; condition = 0; clock = 0 }
+source-among comes conditionrow c (suc k) = later-by comes conditionrow c k (2 ^ k) (c / 2 ^ k % 2) (source-among comes conditionrow c k)
 
 -- Combination d's notes are 56 numbers: the counts by node as each condition's value arrives, and the last ones from
 -- place 48 on.
@@ -65,10 +61,8 @@ notes-from notes at = fill 48 (λ i. getD notes (at + i) 0) 48
 unfoldable pub counts-at : Source → ℕ
 counts-at s = if eqb (s .clock) no-value then s .from * 56 + 48 else s .from * 56 + s .condition * 8
 
--- What combination c takes over from its source: what is placed there before a clock, and what was noted then.
-pub record Taken-from (processes conditionrow conditions slots c clock : ℕ) (node lasting comes place notes rows places ends counts noted : List ℕ) : Type 0 where
-  pub source : Source
-  pub sourced : Sourced comes conditionrow conditions c source
+-- What is taken over from a source: what is placed there before a clock, and what was noted then.
+pub record Taken-from (source : Source) (processes slots clock : ℕ) (node lasting comes place notes rows places ends counts noted : List ℕ) : Type 0 where
   pub until : clock ≡ source .clock
   pub rows-cut : rows ≡ cut (block comes (source .from)) lasting (source .clock)
   pub places-whole : places ≡ block place (source .from)
@@ -80,5 +74,5 @@ pub record Taken-from (processes conditionrow conditions slots c clock : ℕ) (n
 pub data Prefix-shared (processes conditionrow conditions slots c clock : ℕ) (node lasting comes place notes rows places ends counts noted : List ℕ) : Type 0 where
   begins : c ≡ 0 → clock ≡ 1 → rows ≡ replicate ROWS 0 → places ≡ replicate ROWS 0 → ends ≡ replicate 8 0 → counts ≡ replicate 8 0 → noted ≡ replicate 48 0 →
       Prefix-shared processes conditionrow conditions slots c clock node lasting comes place notes rows places ends counts noted
-  goes-on : Taken-from processes conditionrow conditions slots c clock node lasting comes place notes rows places ends counts noted →
+  goes-on : 0 < c → Taken-from (source-among comes conditionrow c conditions) processes slots clock node lasting comes place notes rows places ends counts noted →
       Prefix-shared processes conditionrow conditions slots c clock node lasting comes place notes rows places ends counts noted

@@ -20,7 +20,7 @@ ghost use Prim.Native.Nat.{ℕ, _^_, _<_, _≤_};
 ghost use lib.ListN.{getD, length, replicate};
 ghost use Rattle.limits.specs.Limits.{NODES, PROCESSES, CONDITIONS, COMBINATIONS, CONDITIONROW, ROWS, ENTRIES, NOTED};
 ghost use Rattle.table_entries.specs.Logs.{block};
-ghost use Rattle.planner_prefix.specs.Prefix.{cut-one, cut, ends-below, arrival, later-by, Sourced};
+ghost use Rattle.planner_prefix.specs.Prefix.{cut-one, cut, ends-below, arrival, later-by, source-among};
 ghost use Rattle.planner_prefix.specs.Prefix.{counts-at, Prefix-shared};
 
 // The combination that another takes over from, the condition in which the two differ, and the clock up to which they
@@ -70,10 +70,11 @@ fn later(
     }
 }
 
-// Of the earlier combinations that differ from c in one condition, the one whose value arrives last, with that clock.
+// Of the earlier combinations that differ from c in one condition, the one whose value arrives last, with that clock;
+// the lowest condition where several do.
 fn source_of(comes: &[u32; ENTRIES], conditionrow: usize, conditions: usize, c: usize) -> Source
     requires { ⌜ (conditionrow ≤ CONDITIONROW) × (conditions ≤ CONDITIONS) × (0 < c) × (c < 2 ^ conditions) ⌝ }
-    ensures { λ r. ⌜ Sourced (now (comes .entry)) conditionrow conditions c r ⌝ }
+    ensures { λ r. ⌜ r ≡ source-among (now (comes .entry)) conditionrow c conditions ⌝ }
 {
     let mut best = Source {
         from: 0,

@@ -1,6 +1,7 @@
--- Laws of what the planning program prints: Printing (the planner's answer printed), Reading (a text read and its plan
--- printed), Room (how many bytes are printed at most), Whole (all of them are written where so many are lent).
-pub mod Printing
-pub mod Reading
+-- Laws of a listing and of what is printed: Room (how many bytes a listing has at most), ListingOfPlan (what is written
+-- for the planner's answer is the plan's listing), ListingOfText (the same for what a text reads as), PrintedOfText
+-- (what the program prints is the listing, or the line of the refusal).
 pub mod Room
-pub mod Whole
+pub mod ListingOfPlan
+pub mod ListingOfText
+pub mod PrintedOfText

@@ -1,27 +1,26 @@
--- What the planning program prints for a text is never more than 388,100 bytes: 3,000 lines of entries have at most 104
--- bytes each, 2,000 lines of frames at most 38 bytes each, and the first two lines fewer than 100 in all.
+-- The listing of a plan of at most 3,000 entries has at most 426,100 bytes: lines of entries have at most 104 bytes
+-- each, lines of frames, of which there are no more than entries, at most 38, and the first two fewer than 100 in all.
 -- Assumes nothing.
-use mathlib.Core.Path.{_≡_, refl, sym, ap, _∙_, subst}
-use mathlib.Core.Bool.{Bool, true, false}
-use mathlib.Core.List.{List, List·Memᴰ as In}
+use mathlib.Core.Path.{_≡_, sym, ap, _∙_, subst}
+use mathlib.Core.Bool.{Bool, not}
+use mathlib.Core.List.{List, [], map, List·Memᴰ as In}
 use Prim.Native.Nat.{ℕ, _+_, _*_, _≤_, _<_}
 use native.Mathlib.Omega.{arith}
 use borrow.Author.Tests.{ltb-false}
-use lib.Dec.{eqb, ltb}
-use lib.ListN.{length}
-use Rattle.lists.specs.Lists.{any, keep, each, below, sum}
+use lib.Dec.{eqb}
+use lib.ListN.{length, length-map}
+use Rattle.lists.specs.Lists.{keep, each, below, sum}
 use Rattle.lists.proofs.Keep.{length-upfrom}
 use Rattle.lists.proofs.Counts.{keep-short}
+use Rattle.lists.proofs.Order.{put-all-most}
 use Rattle.lists.proofs.Sums.{sum-most-in, length-each}
-use Rattle.model.specs.Plan.{Lines, process, edges}
-use Rattle.model.specs.Bus.{sender, row-node, row-bytes, slot-of}
+use Rattle.model.specs.Plan.{Lines, process}
+use Rattle.model.specs.Bus.{is-process, sender, row-node, row-bytes, slot-of}
 use Rattle.model.specs.Log.{Placed}
 use Rattle.model.specs.Planning.{State, bound, planned}
-use Rattle.model.specs.Refusals.{Refusal, nothing, refused, sentence, or-else, plan-refusal, wrong-counts, wrong-sizes, wrong-nodes, wrong-deciders, wrong-ends, twin-edges, wrong-when, too-long}
-use Rattle.model.specs.Table.{Entry, Frame, Answer, turned-down, made, Result, result, Planned, plans, passed-by, entry-of, entry-words, frame-words, answered, room-refusal, plan-answer}
-use Rattle.model.specs.Text.{Reading, after-refusal, Answers-text, of-no-form, of-form}
-use Rattle.model.specs.Text as m
-use Rattle.model.specs.Listing.{refused-line, printed, program-prints}
+use Rattle.model.specs.Refusals.{nothing, plan-refusal}
+use Rattle.model.specs.Table.{Entry, Frame, made, result, frames, frame-of, frame-key, wider, Planned, plans, passed-by, entry-of, entry-words, frame-words}
+use Rattle.model.specs.Listing.{printed, plan-listing}
 use Rattle.text_grammar.proofs.Numbers.{decimal-length}
 use Rattle.laws.proofs.Bound.{bound-small}
 use Rattle.laws.proofs.Entries.{final, Made, entries-in}
@@ -38,9 +37,8 @@ use Rattle.listing_count.specs.Parts.{entry-text, entries-text, frame-text, fra
 use Rattle.listing_count.proofs.DigitCounts.{one-digit}
 use Rattle.listing_count.proofs.Lengths.{frame-length, listing-length}
 use Rattle.listing_count.proofs.Most.{line-most}
-use Rattle.listing_count.proofs.Lines.{refused-length, listing-same}
-use Rattle.planner.proofs.Given.{made-suffice}
-use Rattle.planner.proofs.Most.{plans-few, plan-in, delay-most}
+use Rattle.listing_count.proofs.Lines.{listing-same}
+use Rattle.planner_table.proofs.Most.{plans-few, plan-in, delay-most}
 
 -- the bounds of an entry of the planner's table
 record Bounded (p : Lines) (e : Entry) : Type 0 where
@@ -97,9 +95,18 @@ module _ (p : Lines) (fine : plan-refusal p ≡ nothing) where
       omega (arith, sum-most-in (λ s. length (keep (eqb n) (s .state .passed))) (plans p) 198 (passed-one n), plans-few p fine)) in
       omega (arith, length-upfrom 0 (length (p .slots)), g .few-slots)
 
-  -- the listing of a result of at most 3,000 entries and 2,000 frames
-  listing-most : length (entry-words (result p .entries)) ≤ 15000 → length (frame-words (result p .frames)) ≤ 6000 → length (printed p (made (result p))) ≤ 388100
-  listing-most h k =
+  -- an entry is in one frame at most
+  pub frames-few : length (result p .frames) ≤ length (result p .entries)
+  unfolding result frames
+  frames-few =
+      let es : List Entry = result p .entries in
+      let items : List Entry = keep (λ e. not (is-process p (e .row))) es in
+      omega (arith, put-all-most frame-key wider (map (frame-of p) items) [], length-map items (frame-of p), keep-short (λ e. not (is-process p (e .row))) es)
+
+  -- the listing of a result of at most 3,000 entries
+  pub listing-most : length (entry-words (result p .entries)) ≤ 15000 → length (plan-listing p) ≤ 426100
+  unfolding plan-listing
+  listing-most h =
       let P : ℕ = length (p .processes) in
       let E : ℕ = length (p .edges) in
       let C : ℕ = length (p .conditions) in
@@ -115,77 +122,11 @@ module _ (p : Lines) (fine : plan-refusal p ≡ nothing) where
         arith,
         listing-length P E C (result p .delay) (sum (result p .passed)) (entry-words es) (frame-words fs),
         entry-words-count es,
-        frame-words-count fs,
+        frames-few,
         decimal-length 8 (result p .delay) (omega (arith, delay-most p fine)),
         decimal-length 5 (sum (result p .passed)) passed-most,
       )
 
--- the number of a refusal
-abbrev Most : Refusal → Type 0
-Most x = (n : ℕ) → x ≡ refused n → n ≤ 11
-
-no-refusal : Most nothing
-no-refusal n e = absurd (let z : _≡_ {A = ℕ} 0 1 = cc in omega arith)
-
-sentence-most : (k : ℕ) (b : Bool) (r : Refusal) → k ≤ 11 → Most r → Most (sentence k b r)
-sentence-most k true r l h n e = let q : k ≡ n = cc in omega arith
-sentence-most k false r l h n e = h n e
-
-or-else-most : (x r : Refusal) → Most x → Most r → Most (or-else x r)
-unfolding or-else
-or-else-most nothing r h k n e = k n e
-or-else-most (refused j) r h k n e = h n e
-
-plan-most : (p : Lines) → Most (plan-refusal p)
-unfolding plan-refusal
-plan-most p =
-    sentence-most 2 (wrong-counts p) _ (omega arith)
-    (sentence-most 3 (wrong-sizes p) _ (omega arith)
-    (sentence-most 4 (wrong-nodes p) _ (omega arith)
-    (sentence-most 5 (wrong-deciders p) _ (omega arith)
-    (sentence-most 6 (any (wrong-ends p) (p .edges)) _ (omega arith)
-    (sentence-most 7 (twin-edges (p .edges)) _ (omega arith)
-    (sentence-most 8 (any (wrong-when p) (p .edges)) _ (omega arith) (sentence-most 9 (any (too-long p) (edges p)) nothing (omega arith) no-refusal)))))))
-
-room-most : (r : Result) (words room : ℕ) → Most (room-refusal r words room)
-unfolding room-refusal
-room-most r words room =
-    sentence-most 10 (ltb words (length (entry-words (r .entries)))) _ (omega arith)
-    (sentence-most 11 (ltb room (length (frame-words (r .frames)))) nothing (omega arith) no-refusal)
-
-refused-most : (n : ℕ) → n ≤ 11 → length (refused-line n) ≤ 388100
-refused-most n l = omega (arith, refused-length n, decimal-length 1 n (omega arith))
-
-answer-most : (x : Refusal) (r : Result) (n : ℕ) → Most x → answered x r ≡ turned-down n → n ≤ 11
-unfolding answered
-answer-most nothing r n h e = absurd (let z : _≡_ {A = ℕ} 0 1 = cc in omega arith)
-answer-most (refused j) r n h e = h n (let q : j ≡ n = cc in ap refused q)
-
-answer-is : (p : Lines) → plan-answer p 15000 6000 ≡ answered (or-else (plan-refusal p) (room-refusal (result p) 15000 6000)) (result p)
-unfolding plan-answer
-answer-is p = refl
-
-refusal-printed : (p : Lines) (n : ℕ) → length (printed p (turned-down n)) ≡ length (refused-line n)
-unfolding printed
-refusal-printed p n = refl
-
-plan-fits : (p : Lines) (a : Answer) → plan-answer p 15000 6000 ≡ a → length (printed p (plan-answer p 15000 6000)) ≤ 388100
-plan-fits p (turned-down n) e =
-    let l : n ≤ 11 =
-    answer-most (or-else (plan-refusal p) (room-refusal (result p) 15000 6000)) (result p) n
-    (or-else-most (plan-refusal p) (room-refusal (result p) 15000 6000) (plan-most p) (room-most (result p) 15000 6000)) (sym (answer-is p) ∙ e) in
-    omega (arith, ap (λ (a : Answer). length (printed p a)) e, refusal-printed p n, refused-most n l)
-plan-fits p (made r) e =
-    let s = made-suffice p 15000 6000 r e in
-    omega (arith, ap (λ (a : Answer). length (printed p a)) (e ∙ ap made (s .same)), listing-most p (s .passes) (s .enough) (s .frames-enough))
-
--- Whatever a text reads as, what is printed for it has at most 388,100 bytes.
-pub program-fits : (text : List ℕ) (reading : Reading) → Answers-text text reading → length (program-prints reading) ≤ 388100
-unfolding program-prints after-refusal
-program-fits text reading (m.too-long l) = refused-most 1 (omega arith)
-program-fits text reading (of-no-form f) = refused-most 1 (omega arith)
-program-fits text reading (of-form p q l) = at (plan-refusal p) (plan-most p)
-  where
-    at : (x : Refusal) → Most x → length (program-prints (after-refusal x p)) ≤ 388100
-    at nothing h = plan-fits p (plan-answer p 15000 6000) refl
-    at (refused n) h = refused-most n (h n refl)
+  -- the words lent for the frame list suffice
+  pub frame-words-few : length (entry-words (result p .entries)) ≤ 15000 → length (frame-words (result p .frames)) ≤ 9000
+  frame-words-few h = omega (arith, entry-words-count (result p .entries), frame-words-count (result p .frames), frames-few)

@@ -8,9 +8,8 @@ use native.Mathlib.Omega.{arith}
 use lib.ListN.{length, getD, take}
 use lib.Seq.{slice, slice-empty, slice-cons}
 use Rattle.lists.specs.Lists.{each, upfrom}
-use Rattle.lists.specs.Ordered.{put-all}
+use Rattle.lists.specs.Ordered.{Ascending, put-all}
 use Rattle.lists.proofs.Loops.{upfrom-next, upfrom-end}
-use Rattle.lists.proofs.Order.{Ascending}
 use Rattle.table_entries.specs.Among.{multiple, Added}
 use Rattle.table_entries.proofs.Putting.{put-all-append}
 use Rattle.table_entries.proofs.Multiples.{numbers-ascend, put-joined}

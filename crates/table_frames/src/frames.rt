@@ -13,7 +13,7 @@ ghost use lib.ListN.{getD, length, take};
 ghost use lib.Seq.{slice};
 ghost use Rattle.limits.specs.Limits.{ENTRIES};
 ghost use Rattle.lists.specs.Front.{front};
-ghost use Rattle.lists.proofs.Order.{Ascending};
+ghost use Rattle.lists.specs.Ordered.{Ascending};
 ghost use Rattle.table_entries.specs.Among.{multiple, Added};
 ghost use Rattle.table_frames.specs.Packed.{entry-frame, Collected, Rows, packed-frames, packed-words};
 

@@ -6,7 +6,6 @@ ghost use mathlib.Core.Path.{_≡_};
 ghost use mathlib.Core.List.{[], _∷_, _++_};
 ghost use Prim.Native.Nat.{_+_, _<_};
 ghost use Rattle.model.specs.Text.{decimal};
-ghost use Rattle.text_lines.specs.Line.{put-on};
 ghost use Rattle.text_lines.specs.Put.{Counts, Put};
 
 // Puts one byte.
@@ -54,6 +53,15 @@ fn put_number(out: &mut [u8], at: usize, n: u32) -> usize
     put_byte(out, end, digit(n % 10))
 }
 
+// Puts a label and the number after it.
+pub fn put_labelled(out: &mut [u8], at: usize, label: &[u8], n: u32) -> usize
+    requires { ⌜ Counts at (now label ++ decimal n) ⌝ }
+    ensures { λ r. ⌜ Put (now (out .entry)) (now (out .exit)) at r (now (label .entry) ++ decimal n) ⌝ }
+{
+    let end = put_word(out, at, label);
+    put_number(out, end, n)
+}
+
 // The line writer: the output bytes, and how far they are filled.
 pub struct Writer<'a> {
     pub out: &'a mut [u8],
@@ -67,43 +75,9 @@ pub fn start<'a>(out: &'a mut [u8], at: usize) -> Writer<'a>
     Writer { out: out, at: at }
 }
 
-// Puts a word.
-pub fn word<'a, 'b>(w: Writer<'a>, word: &'b [u8]) -> Writer<'a>
-    requires { ⌜ Counts (w .at) (now word) ⌝ }
-    ensures { λ r. ⌜ r ≡ put-on (w .entry) (now (word .entry)) ⌝ }
-{
-    let at = w.at;
-    let end = put_word(&mut *w.out, at, word);
-    Writer {
-        out: w.out,
-        at: end,
-    }
-}
-
-// Puts a number.
-pub fn number<'a>(w: Writer<'a>, n: u32) -> Writer<'a>
-    requires { ⌜ Counts (w .at) (decimal n) ⌝ }
-    ensures { λ r. ⌜ r ≡ put-on (w .entry) (decimal n) ⌝ }
-{
-    let at = w.at;
-    let end = put_number(&mut *w.out, at, n);
-    Writer {
-        out: w.out,
-        at: end,
-    }
-}
-
 // How far the output bytes are filled.
 pub fn filled<'a>(w: Writer<'a>) -> usize
     ensures { λ r. ⌜ (r ≡ w .entry .at) × (now (w .exit .0) ≡ now (w .entry .out)) ⌝ }
 {
     w.at
-}
-
-// Puts a label and the number after it.
-pub fn put_labelled(out: &mut [u8], at: usize, label: &[u8], n: u32) -> usize
-    requires { ⌜ Counts at (now label ++ decimal n) ⌝ }
-    ensures { λ r. ⌜ Put (now (out .entry)) (now (out .exit)) at r (now (label .entry) ++ decimal n) ⌝ }
-{
-    filled(number(word(start(out, at), label), n))
 }

@@ -15,14 +15,13 @@ use Rattle.laws.proofs.Good.{inside}
 use Rattle.text_grammar.specs.Parse.{none, got, head-at, lines-at, no-lines, got-lines, to-end, read-lines}
 use Rattle.text_grammar.proofs.Parsed.{not-lines}
 use Rattle.text_grammar.proofs.Whole.{read-means, means-read}
-use Rattle.plan.specs.Memory.{pick-of, slot-of, no-slot, process-of, no-process, edge-of, no-edge, lines}
+use Rattle.plan.specs.Memory.{pick-of, slot-of, process-of, edge-of, held-slot, held-process, held-edge, no-slot, no-process, no-edge, lines, empty-plan}
 use Rattle.plan.specs.declared.Pick.{Pick}
-use Rattle.plan.specs.declared.Slot.{Slot}
-use Rattle.plan.specs.declared.Process.{Process}
-use Rattle.plan.specs.declared.Edge.{Edge}
 use Rattle.plan.specs.declared.Plan.{Plan}
-use Rattle.plan.proofs.Counted.{counted-length}
-use Rattle.text_reader.specs.Run.{Run}
+use Rattle.plan.proofs.HeldLines.{held-process-of, held-edge-of}
+use Rattle.plan.proofs.Counted.{counted-length, counted-front}
+use Rattle.text_reader.specs.declared.line_runs.Filled.{Filled}
+use Rattle.text_reader.specs.Run.{Run, with-head, filled}
 use Rattle.text_reader.specs.Run as kinds
 
 -- refusal 1
@@ -37,11 +36,12 @@ pub no-head : (text : List ℕ) → head-at text ≡ none → read-lines text �
 unfolding read-lines to-end lines-at
 no-head text h = rw h
 
--- The parts of a text that begins with a plan line: its runs, and where they end.
-module _ {text : List ℕ} {byte : ℕ} (pick : Pick) {i j k l end : ℕ} {s q c e : ℕ} {ss : List Slot} {qs : List Process} {cs : List ℕ} {es : List Edge}
-    (first : head-at text ≡ got (record { byte = byte; pick = pick-of pick }) (drop i text))
-    (slots : Run kinds.slots text i s ss j) (processes : Run kinds.processes text j q qs k)
-    (conditions : Run kinds.conditions text k c cs l) (edges : Run kinds.edges text l e es end) where
+-- The parts of a text that begins with a plan line: its runs, read into the plan that started empty, and where they
+-- end.
+module _ {text : List ℕ} {byte : ℕ} (pick : Pick) {i : ℕ} {start : Plan} {s q c e : Filled}
+    (first : head-at text ≡ got (record { byte = byte; pick = pick-of pick }) (drop i text)) (begins : start ≡ with-head empty-plan byte pick)
+    (slots : Run kinds.slots text i start s) (processes : Run kinds.processes text (s .next) (s .plan) q)
+    (conditions : Run kinds.conditions text (q .next) (q .plan) c) (edges : Run kinds.edges text (c .next) (c .plan) e) where
   abbrev said : Lines
   said =
       record {
@@ -58,40 +58,39 @@ module _ {text : List ℕ} {byte : ℕ} (pick : Pick) {i j k l end : ℕ} {s q c
       record {
         byte = byte;
         pick = pick;
-        slots = s;
-        slot = ss;
-        processes = q;
-        process = qs;
-        conditions = c;
-        condition = cs;
-        edges = e;
-        edge = es;
+        slots = length (slots .lines);
+        slot = filled kinds.slots (slots .lines) (empty-plan .slot);
+        processes = length (processes .lines);
+        process = filled kinds.processes (processes .lines) (empty-plan .process);
+        conditions = length (conditions .lines);
+        condition = filled kinds.conditions (conditions .lines) (empty-plan .condition);
+        edges = length (edges .lines);
+        edge = filled kinds.edges (edges .lines) (empty-plan .edge);
       }
 
-  to-last : lines-at text ≡ got said (drop end text)
+  plan-is : e .plan ≡ kept
+  plan-is = rw (edges .plan, conditions .plan, processes .plan, slots .plan, begins)
+
+  to-last : lines-at text ≡ got said (drop (e .next) text)
   unfolding lines-at
   to-last = rw (first, slots .read, processes .read, conditions .read, edges .read)
 
-  pub more-follows : end < length text → read-lines text ≡ no-lines
+  pub more-follows : e .next < length text → read-lines text ≡ no-lines
   unfolding read-lines to-end
-  more-follows h = rw (to-last, drop-cons text end 0 h)
+  more-follows h = rw (to-last, drop-cons text (e .next) 0 h)
 
-  all-read : length text ≤ end → read-lines text ≡ got-lines said
+  all-read : length text ≤ e .next → read-lines text ≡ got-lines said
   unfolding read-lines to-end
-  all-read h = rw (to-last, drop-of-length-le text {i = end} h)
+  all-read h = rw (to-last, drop-of-length-le text {i = e .next} h)
 
   same-counts : wrong-counts (lines kept) ≡ wrong-counts said
   unfolding wrong-counts lines
   same-counts =
       rw (
-        counted-length slot-of no-slot s ss,
-        counted-length process-of no-process q qs,
-        counted-length (λ i. i) 0 c cs,
-        counted-length edge-of no-edge e es,
-        slots .all,
-        processes .all,
-        conditions .all,
-        edges .all,
+        counted-length slot-of no-slot (kept .slots) (kept .slot),
+        counted-length process-of no-process (kept .processes) (kept .process),
+        counted-length (λ i. i) 0 (kept .conditions) (kept .condition),
+        counted-length edge-of no-edge (kept .edges) (kept .edge),
       )
 
   nothing-lost : wrong-counts said ≡ false → said ≡ lines kept
@@ -101,10 +100,11 @@ module _ {text : List ℕ} {byte : ℕ} (pick : Pick) {i j k l end : ℕ} {s q c
       let v = neither _ _ (u .0) in
       let w = neither _ _ (v .0) in
       rw (
-        slots .held (rw (slots .all) (inside 1 8 (length (slots .lines)) (w .0) .1)),
-        processes .held (rw (processes .all) (inside 1 64 (length (processes .lines)) (w .1) .1)),
-        conditions .held (rw (conditions .all) (ltb-false 6 (length (conditions .lines)) (v .1))),
-        edges .held (rw (edges .all) (ltb-false 128 (length (edges .lines)) (u .1))),
+        counted-front slot-of no-slot held-slot (λ x. refl) (slots .lines) 8 (empty-plan .slot) (inside 1 8 (length (slots .lines)) (w .0) .1),
+        counted-front process-of no-process held-process held-process-of (processes .lines) 64 (empty-plan .process)
+            (inside 1 64 (length (processes .lines)) (w .1) .1),
+        counted-front (λ i. i) 0 (λ i. i) (λ x. refl) (conditions .lines) 6 (empty-plan .condition) (ltb-false 6 (length (conditions .lines)) (v .1)),
+        counted-front edge-of no-edge held-edge held-edge-of (edges .lines) 128 (empty-plan .edge) (ltb-false 128 (length (edges .lines)) (u .1)),
       )
 
   same-answer : after-refusal (plan-refusal said) said ≡ after-refusal (plan-refusal (lines kept)) (lines kept)
@@ -115,5 +115,5 @@ module _ {text : List ℕ} {byte : ℕ} (pick : Pick) {i j k l end : ℕ} {s q c
       at true h = rw (h, same-counts, h)
       at false h = ap (λ (p : Lines). after-refusal (plan-refusal p) p) (nothing-lost h)
 
-  pub whole-text : length text ≤ end → length text ≤ 16384 → {r : Reading} → r ≡ after-refusal (plan-refusal (lines kept)) (lines kept) → Answers-text text r
-  whole-text h short {r} f = rw (f, ← same-answer) (of-form said (read-means (all-read h)) short)
+  pub whole-text : length text ≤ e .next → length text ≤ 16384 → {r : Reading} → r ≡ after-refusal (plan-refusal (lines (e .plan))) (lines (e .plan)) → Answers-text text r
+  whole-text h short {r} f = rw (f, plan-is, ← same-answer) (of-form said (read-means (all-read h)) short)

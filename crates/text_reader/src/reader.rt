@@ -1,9 +1,10 @@
 // The reader of plan texts.
-use crate::line_runs::all_conditions;
-use crate::line_runs::all_edges;
-use crate::line_runs::all_processes;
-use crate::line_runs::all_slots;
+use crate::line_runs::read_conditions;
+use crate::line_runs::read_edges;
+use crate::line_runs::read_processes;
+use crate::line_runs::read_slots;
 use limits::TEXT;
+use plan::Pick;
 use plan::Plan;
 use plan::empty;
 use plan_refusals::Refusal;
@@ -16,6 +17,7 @@ ghost use Rattle.model.specs.Text.{Answers-text, not-read, after-refusal};
 ghost use Rattle.plan.specs.Memory.{lines};
 ghost use Rattle.plan_refusals.specs.Answer.{refusal-of};
 ghost use Rattle.text_reader.specs.Answer.{reading-of, Emptied};
+ghost use Rattle.text_reader.specs.Run.{with-head};
 
 // What a text is read as: the plan, or a refusal and the empty plan.
 pub struct Read {
@@ -59,37 +61,19 @@ fn refused_or_read(plan: Plan) -> Read
     answer(refusal, plan)
 }
 
-// The plan that a text says, of any bytes: refusals 1 to 9.
-pub fn read_plan(text: &[u8]) -> Read
-    ensures answers { λ r. ⌜ Answers-text (now (text .entry)) (reading-of r) ⌝ }
-    ensures emptied { λ r. ⌜ Emptied r ⌝ }
+// A plan with another plan line. A field that is an enum is not stored to, so that the struct is written anew.
+fn with_head(p: Plan, byte: u32, pick: Pick) -> Plan
+    ensures { λ r. ⌜ r ≡ with-head p byte pick ⌝ }
 {
-    if TEXT < text.len() {
-        return no_form();
-    }
-    let HeadAt::Got(byte, pick, i) = head(text, 0) else {
-        return no_form();
-    };
-    let s = all_slots(text, i);
-    let j = s.next;
-    let q = all_processes(text, j);
-    let k = q.next;
-    let c = all_conditions(text, k);
-    let l = c.next;
-    let e = all_edges(text, l);
-    let end = e.next;
-    if end < text.len() {
-        return no_form();
-    }
-    let slots = s.count;
-    let slot = s.kept;
-    let processes = q.count;
-    let process = q.kept;
-    let conditions = c.count;
-    let condition = c.kept;
-    let edges = e.count;
-    let edge = e.kept;
-    let plan = Plan {
+    let slots = p.slots;
+    let slot = p.slot;
+    let processes = p.processes;
+    let process = p.process;
+    let conditions = p.conditions;
+    let condition = p.condition;
+    let edges = p.edges;
+    let edge = p.edge;
+    Plan {
         byte,
         pick,
         slots,
@@ -100,6 +84,29 @@ pub fn read_plan(text: &[u8]) -> Read
         condition,
         edges,
         edge,
+    }
+}
+
+// The plan that a text says, of any bytes: refusals 1 to 9. It starts empty and is filled with one kind of line after
+// another.
+pub fn read_plan(text: &[u8]) -> Read
+    ensures answers { λ r. ⌜ Answers-text (now (text .entry)) (reading-of r) ⌝ }
+    ensures emptied { λ r. ⌜ Emptied r ⌝ }
+{
+    if TEXT < text.len() {
+        return no_form();
+    }
+    let HeadAt::Got(byte, pick, i) = head(text, 0) else {
+        return no_form();
     };
-    refused_or_read(plan)
+    let start = empty();
+    let plan = with_head(start, byte, pick);
+    let s = read_slots(text, i, plan);
+    let q = read_processes(text, s.next, s.plan);
+    let c = read_conditions(text, q.next, q.plan);
+    let e = read_edges(text, c.next, c.plan);
+    if e.next < text.len() {
+        return no_form();
+    }
+    refused_or_read(e.plan)
 }

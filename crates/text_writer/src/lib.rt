@@ -2,6 +2,7 @@
 // Document 01: "The planner's entries need more words, or a written text more bytes, than lent."
 mod edges;
 mod lines;
+mod plan_text;
 mod runs;
 mod writer;
 

@@ -1,21 +1,23 @@
 // Each line of the plan text but an edge's, put into lent bytes from a place on: the bytes that lie within are stored,
 // and all are counted.
 use plan::Pick;
+use plan::Plan;
 use plan::Process;
 use plan::Slot;
 use plan::Waits;
 use text_lines::put_labelled;
 use text_lines::put_word;
 ghost use Rattle.model.specs.Text.{slot-line, process-line, condition-line, plan-line};
-ghost use Rattle.plan.specs.Memory.{pick-of, slot-of, process-of};
+ghost use Rattle.plan.specs.Memory.{lines, slot-of, process-of};
 ghost use Rattle.text_lines.specs.Put.{Counts, Put};
 
 // Puts the plan line.
-pub(crate) fn put_head(out: &mut [u8], at: usize, byte: u32, pick: Pick) -> usize
-    requires { ⌜ Counts at (plan-line byte (pick-of pick)) ⌝ }
-    ensures { λ r. ⌜ Put (now (out .entry)) (now (out .exit)) at r (plan-line byte (pick-of pick)) ⌝ }
+pub(crate) fn put_head(out: &mut [u8], at: usize, p: Plan) -> usize
+    requires { ⌜ Counts at (plan-line (lines p .byte) (lines p .pick)) ⌝ }
+    ensures { λ r. ⌜ Put (now (out .entry)) (now (out .exit)) at r (plan-line (lines p .byte) (lines p .pick)) ⌝ }
 {
-    let end = put_labelled(out, at, b"(plan (byte ", byte);
+    let pick = p.pick;
+    let end = put_labelled(out, at, b"(plan (byte ", p.byte);
     match pick {
         Pick::Urgency => put_word(out, end, b") (pick urgency))\n"),
         Pick::Number => put_word(out, end, b") (pick number))\n"),

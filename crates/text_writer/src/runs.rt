@@ -1,21 +1,19 @@
-// The text of a plan put into lent bytes: its lines one after another.
+// The lines of one kind of a plan put into lent bytes from a place on, one after another: the bytes that lie within are
+// stored, and all are counted.
 use crate::edges::put_edge;
 use crate::lines::put_condition;
-use crate::lines::put_head;
 use crate::lines::put_process;
 use crate::lines::put_slot;
 use plan::Plan;
-ghost use mathlib.Core.Path.{_≡_};
 ghost use Prim.Native.Nat.{_≤_};
 ghost use Rattle.limits.specs.Limits.{NODES, PROCESSES, CONDITIONS, EDGES};
 ghost use Rattle.lists.specs.Lists.{each};
-ghost use Rattle.model.specs.Refusals.{nothing, plan-refusal};
-ghost use Rattle.model.specs.Text.{slot-line, process-line, condition-line, edge-line, print};
+ghost use Rattle.model.specs.Text.{slot-line, process-line, condition-line, edge-line};
 ghost use Rattle.plan.specs.Memory.{lines};
 ghost use Rattle.text_lines.specs.Put.{Counts, Put};
 
 // Puts the slot lines.
-fn put_slots(out: &mut [u8], at: usize, p: Plan) -> usize
+pub(crate) fn put_slots(out: &mut [u8], at: usize, p: Plan) -> usize
     requires { ⌜ (p .slots ≤ NODES) × Counts at (each slot-line (lines p .slots)) ⌝ }
     ensures { λ r. ⌜ Put (now (out .entry)) (now (out .exit)) at r (each slot-line (lines p .slots)) ⌝ }
 {
@@ -31,7 +29,7 @@ fn put_slots(out: &mut [u8], at: usize, p: Plan) -> usize
 }
 
 // Puts the process lines.
-fn put_processes(out: &mut [u8], at: usize, p: Plan) -> usize
+pub(crate) fn put_processes(out: &mut [u8], at: usize, p: Plan) -> usize
     requires { ⌜ (p .processes ≤ PROCESSES) × Counts at (each process-line (lines p .processes)) ⌝ }
     ensures { λ r. ⌜ Put (now (out .entry)) (now (out .exit)) at r (each process-line (lines p .processes)) ⌝ }
 {
@@ -47,7 +45,7 @@ fn put_processes(out: &mut [u8], at: usize, p: Plan) -> usize
 }
 
 // Puts the condition lines.
-fn put_conditions(out: &mut [u8], at: usize, p: Plan) -> usize
+pub(crate) fn put_conditions(out: &mut [u8], at: usize, p: Plan) -> usize
     requires { ⌜ (p .conditions ≤ CONDITIONS) × Counts at (each condition-line (lines p .conditions)) ⌝ }
     ensures { λ r. ⌜ Put (now (out .entry)) (now (out .exit)) at r (each condition-line (lines p .conditions)) ⌝ }
 {
@@ -63,7 +61,7 @@ fn put_conditions(out: &mut [u8], at: usize, p: Plan) -> usize
 }
 
 // Puts the edge lines.
-fn put_edges(out: &mut [u8], at: usize, p: Plan) -> usize
+pub(crate) fn put_edges(out: &mut [u8], at: usize, p: Plan) -> usize
     requires { ⌜ (p .edges ≤ EDGES) × Counts at (each edge-line (lines p .edges)) ⌝ }
     ensures { λ r. ⌜ Put (now (out .entry)) (now (out .exit)) at r (each edge-line (lines p .edges)) ⌝ }
 {
@@ -76,17 +74,4 @@ fn put_edges(out: &mut [u8], at: usize, p: Plan) -> usize
         i += 1;
     }
     end
-}
-
-// Puts the text of a plan that passes refusals 2 to 9.
-pub(crate) fn put_plan(out: &mut [u8], p: Plan) -> usize
-    requires { ⌜ plan-refusal (lines p) ≡ nothing ⌝ }
-    ensures { λ r. ⌜ Put (now (out .entry)) (now (out .exit)) 0 r (print (lines p)) ⌝ }
-{
-    let pick = p.pick;
-    let head = put_head(out, 0, p.byte, pick);
-    let slots = put_slots(out, head, p);
-    let processes = put_processes(out, slots, p);
-    let conditions = put_conditions(out, processes, p);
-    put_edges(out, conditions, p)
 }

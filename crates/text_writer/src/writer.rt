@@ -1,5 +1,5 @@
 // The plan writer: a plan in memory as plan text in lent bytes.
-use crate::runs::put_plan;
+use crate::plan_text::put_plan;
 use plan::Plan;
 use plan_refusals::Refusal;
 use plan_refusals::refuse;

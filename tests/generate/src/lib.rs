@@ -4,6 +4,7 @@
 
 pub mod any_tables;
 pub mod broken;
+pub mod frames;
 pub mod plans;
 pub mod random;
 pub mod tables;

@@ -15,7 +15,7 @@ use ours::archive::{
 };
 use ours::comparing::{as_asked, bytes, plans, random_bytes, Lent};
 use reference::lookup::{c_lookup, little_endian_words};
-use reference::{check, print, read};
+use reference::{check, list_plan, print, read};
 use suite::{cases, planned};
 
 /// The kinds of plans whose texts and tables are mutated: those that are planned quickly.
@@ -139,7 +139,14 @@ fn write_with(text: &mut Lent, wanted: Option<u8>, random: &mut Random) {
     let mut out = lend_room(length, random);
     let before = out.clone();
     let answer = plan_listing(text.lent(), out.lent());
-    only_the_front(&out, &before, written(answer), "listing");
+    let listed = list_plan(text.lent(), length);
+    let wanted_answer = listed.as_ref().map(|listing| listing.len() as u64);
+    assert_eq!(
+        answer,
+        wanted_answer.unwrap_or_else(|&number| refused(number))
+    );
+    let listing = listed.unwrap_or_default();
+    out.assert_is(&before.with(&listing), "listing", "or past it");
 
     let mut lent = [table, frames, totals].map(|length| lend_room(length, random));
     let before = lent.clone();
@@ -242,11 +249,8 @@ fn bytes_of_any_kind() {
 
 /// The same, with fewer inputs and every access to memory watched.
 #[test]
+#[cfg_attr(not(have_valgrind), ignore = "valgrind is not on the PATH")]
 fn bytes_of_any_kind_under_valgrind() {
-    if Command::new("valgrind").arg("--version").output().is_err() {
-        println!("valgrind is not on the PATH: skipped");
-        return;
-    }
     let program = std::env::current_exe().expect("this program");
     let output = Command::new("valgrind")
         .args(["-q", "--error-exitcode=9"])

@@ -11,9 +11,9 @@ use generate::random::Random;
 use generate::texts::{damaged_texts, of_length};
 use ours::archive::{plan_listing, plan_table, refused};
 use ours::comparing::{bytes, count, random_bytes, Lent, Shares};
-use reference::listing::{write_listing, PROGRAM_FRAME_WORDS, PROGRAM_WORDS};
-use reference::{listing, print, read, Lines};
-use suite::{cases, for_plans, FEW, S, S_LISTING};
+use reference::listing::{refuse_listing, PROGRAM_FRAME_WORDS, PROGRAM_WORDS};
+use reference::{list_plan, listing, print, read, Lines, Planned};
+use suite::{about_the_room, cases, for_plans, planned, FEW, S, S_LISTING};
 
 /// Of a thousand random plans, how many are of each kind. They add up to a thousand.
 const SHARES: Shares = [
@@ -32,37 +32,34 @@ const WORD: usize = 4;
 /// The most bytes that are lent for the totals: one word more than there are.
 const MOST_TOTALS: usize = 5 * WORD;
 
+/// The bytes that the planning program lends for the table and for the frames.
+const PROGRAM_ROOM: (usize, usize) = (PROGRAM_WORDS * WORD, PROGRAM_FRAME_WORDS * WORD);
+
+/// More bytes than any listing of 3,000 entries has.
+const LONG: usize = 500_000;
+
 /// What the reference gives for a text.
 struct Wanted<'a> {
     text: &'a [u8],
-    /// Start table, frame list and totals as bytes, or one of refusals 1 to 9.
-    planned: Result<Bytes, u8>,
-    /// What the planning program prints.
-    listing: Vec<u8>,
+    /// What a plan that is not refused gives, or one of refusals 1 to 9.
+    made: Result<Made, u8>,
 }
 
-/// What a plan that is not refused gives, as bytes.
-struct Bytes {
+/// What a plan that is not refused gives.
+struct Made {
+    planned: Planned,
     table: Vec<u8>,
     frames: Vec<u8>,
     totals: Vec<u8>,
+    /// The whole listing, also where it is refused.
+    listing: Vec<u8>,
 }
 
 /// What the reference gives for a text, planned once for all that is lent.
 fn wanted(text: &[u8]) -> Wanted<'_> {
-    let planned = read(text).and_then(|lines| {
-        let planned = reference::plan(&lines, usize::MAX, usize::MAX)?;
-        Ok((lines, planned))
-    });
-    let printed = match &planned {
-        Err(number) => Err(*number),
-        Ok((_, p)) if p.words.len() > PROGRAM_WORDS => Err(10),
-        Ok((_, p)) if p.frames.len() > PROGRAM_FRAME_WORDS => Err(11),
-        Ok((lines, p)) => Ok(listing(lines, p.delay, p.passed, &p.words, &p.frames)),
-    };
-    Wanted {
-        text,
-        planned: planned.map(|(_, p)| Bytes {
+    let made = read(text).and_then(|lines| {
+        let p = reference::plan(&lines, usize::MAX, usize::MAX)?;
+        Ok(Made {
             totals: bytes(&[
                 p.words.len() as u32,
                 p.frames.len() as u32,
@@ -71,9 +68,11 @@ fn wanted(text: &[u8]) -> Wanted<'_> {
             ]),
             table: bytes(&p.words),
             frames: bytes(&p.frames),
-        }),
-        listing: printed.unwrap_or_else(reference::refused),
-    }
+            listing: listing(&lines, p.delay, p.passed, &p.words, &p.frames),
+            planned: p,
+        })
+    });
+    Wanted { text, made }
 }
 
 /// Bytes lent for the table, for the frames and for the totals.
@@ -82,7 +81,7 @@ type Lengths = (usize, usize, usize);
 impl Wanted<'_> {
     /// What a planner has to answer that is lent so many bytes, and what it has to write.
     fn answer(&self, (table, frames, totals): Lengths) -> (u64, [&[u8]; 3]) {
-        match &self.planned {
+        match &self.made {
             Err(number) => (refused(*number), [&[]; 3]),
             Ok(wanted) if wanted.table.len() > table => (refused(10), [&[]; 3]),
             Ok(wanted) if wanted.frames.len() > frames => (refused(11), [&[]; 3]),
@@ -119,12 +118,21 @@ impl Wanted<'_> {
         totals.assert_is(&after[2], "totals", &context);
     }
 
-    /// Prints with so many bytes lent.
+    /// The listing with so many bytes lent, or the first refusal that applies.
+    fn listed(&self, length: usize) -> Result<&[u8], u8> {
+        let made = self.made.as_ref().map_err(|&number| number)?;
+        match refuse_listing(&made.planned, made.listing.len(), length) {
+            Some(number) => Err(number),
+            None => Ok(&made.listing),
+        }
+    }
+
+    /// Lists with so many bytes lent, which a refusal leaves as they were.
     fn same_listing(&self, length: usize, random: &mut Random) {
         let mut out = Lent::new(length, random);
-        let (answer, after) = match write_listing(self.listing.clone(), length) {
+        let (answer, after) = match self.listed(length) {
             Err(number) => (refused(number), out.bytes.clone()),
-            Ok(listing) => (listing.len() as u64, out.with(&listing)),
+            Ok(listing) => (listing.len() as u64, out.with(listing)),
         };
         let ours = plan_listing(self.text, out.lent());
         let context = self.context(length);
@@ -132,11 +140,23 @@ impl Wanted<'_> {
         out.assert_is(&after, "listing", &context);
     }
 
+    /// The bytes to lend for the listing: none, one too few, exactly as many as it takes, more; for
+    /// a refused text none, those of the line that the program prints, more.
+    fn listing_lengths(&self) -> Vec<usize> {
+        match &self.made {
+            Err(number) => vec![0, reference::refused(*number).len(), 1_000],
+            Ok(made) => {
+                let length = made.listing.len();
+                vec![0, length - 1, length, length + 9]
+            }
+        }
+    }
+
     /// The bytes to lend for table and frames: none, words missing for either or both, exactly as
     /// many as it takes, more, and each with stray bytes that are no word.
     fn lengths(&self, random: &mut Random) -> Vec<(usize, usize)> {
         let mut more = || random.between(1, 9) as usize * WORD;
-        let Ok(Bytes { table, frames, .. }) = &self.planned else {
+        let Ok(Made { table, frames, .. }) = &self.made else {
             return vec![(0, 0), (WORD + 1, WORD - 1), (400 * more(), 200 * more())];
         };
         let (table, frames) = (table.len(), frames.len());
@@ -162,15 +182,14 @@ impl Wanted<'_> {
         all
     }
 
-    /// Plans with everything lent in each way, the totals at random, and prints.
+    /// Plans with everything lent in each way, the totals at random, and lists.
     fn same(&self, random: &mut Random) {
         for (table, frames) in self.lengths(random) {
             let totals = random.below(MOST_TOTALS as u64 + 1) as usize;
             self.same_table((table, frames, totals), random);
         }
-        let length = self.listing.len();
-        for lent in [0, length - 1, length, length + 9] {
-            self.same_listing(lent, random);
+        for length in self.listing_lengths() {
+            self.same_listing(length, random);
         }
     }
 }
@@ -251,6 +270,42 @@ fn every_length_for_the_listing_of_s() {
     let mut random = Random::new(42);
     for length in 0..S_LISTING.len() + 70 {
         wanted.same_listing(length, &mut random);
+    }
+}
+
+/// The listing by itself: what `listed` says of a text planned once is what the reference gives.
+#[test]
+fn listings_with_the_lent_bytes_at_random() {
+    for_plans(48, &FEW, |lines, random| {
+        let text = print(lines);
+        let wanted = wanted(&text);
+        let length = random.below(8_000) as usize;
+        assert_eq!(
+            wanted.listed(length).map(<[u8]>::to_vec),
+            list_plan(&text, length)
+        );
+        wanted.same_listing(length, random);
+    });
+}
+
+/// As many entries and frames as the planning program has room for, and one more of either or both:
+/// 10 before 11, in the table and in the listing.
+#[test]
+fn plans_about_the_room_of_the_program() {
+    let random = &mut Random::new(49);
+    for (lines, refusal) in about_the_room(random) {
+        let text = print(&lines);
+        let wanted = wanted(&text);
+        wanted.same(random);
+        let (table, frames) = PROGRAM_ROOM;
+        for lengths in [(table, frames), (table - 1, frames), (table, frames - 1)] {
+            wanted.same_table((lengths.0, lengths.1, MOST_TOTALS), random);
+        }
+        let answer = wanted.answer((table, frames, MOST_TOTALS)).0;
+        let accepted = bytes(&planned(&lines).words).len() as u64;
+        assert_eq!(answer, refusal.map_or(accepted, refused));
+        assert_eq!(wanted.listed(LONG).err(), refusal);
+        wanted.same_listing(LONG, random);
     }
 }
 

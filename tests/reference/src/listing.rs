@@ -1,7 +1,7 @@
-//! The listing that the planning program prints.
+//! The listing of a plan, in lent bytes and as the planning program prints it.
 
 use crate::lines::Lines;
-use crate::planner::plan;
+use crate::planner::{plan, Planned};
 use crate::table::{entries, frames, row, Entry, Frame, Row, ENTRY_WORDS, FRAME_WORDS};
 use crate::text::read;
 
@@ -47,12 +47,30 @@ pub fn listing(
     text.into_bytes()
 }
 
-/// The listing, or refusal 10 where "a written text [needs] more bytes, than lent."
-pub fn write_listing(listing: Vec<u8>, bytes_lent: usize) -> Result<Vec<u8>, u8> {
-    if listing.len() > bytes_lent {
-        return Err(10);
+/// The listing of a text's plan, or the first refusal that applies with so many bytes lent for it. The
+/// planner is lent what the planning program lends it. A refusal is the number alone: only the
+/// program prints its line.
+pub fn list_plan(text: &[u8], bytes_lent: usize) -> Result<Vec<u8>, u8> {
+    let lines = read(text)?;
+    let p = plan(&lines, usize::MAX, usize::MAX)?;
+    let listing = listing(&lines, p.delay, p.passed, &p.words, &p.frames);
+    match refuse_listing(&p, listing.len(), bytes_lent) {
+        Some(number) => Err(number),
+        None => Ok(listing),
     }
-    Ok(listing)
+}
+
+/// "10. The planner's entries need more words, or a written text more bytes, than lent. 11. Its
+/// frames need more words than lent." The text is the whole listing, of so many bytes, also where
+/// its frames are more than 2,000.
+pub fn refuse_listing(planned: &Planned, listing_bytes: usize, bytes_lent: usize) -> Option<u8> {
+    if planned.words.len() > PROGRAM_WORDS || listing_bytes > bytes_lent {
+        return Some(10);
+    }
+    if planned.frames.len() > PROGRAM_FRAME_WORDS {
+        return Some(11);
+    }
+    None
 }
 
 /// "start, send and tell carry the number of a process, edge or condition that the plan has". An

@@ -1,5 +1,6 @@
 //! That the random plans are what their kinds say, so that the properties are tried on them.
 
+use generate::frames::{fewest_entries, with_frames, FEWEST_FRAMES, MOST_FRAMES};
 use generate::{plan, Kind, Random, KINDS};
 use reference::bus::round_ticks;
 use reference::{refuse_plan, Lines, Pick, Waits};
@@ -73,4 +74,30 @@ fn many_conditions_give_columns_with_several_values() {
         table.chunks(5).any(|entry| entry[1].count_ones() >= 4)
     });
     assert!(rich.count() > 10);
+}
+
+#[test]
+fn plans_with_frames_have_as_many_frames_and_entries_as_asked() {
+    let random = &mut Random::new(61);
+    let mut frames = vec![
+        FEWEST_FRAMES,
+        1_000,
+        1_999,
+        2_000,
+        2_001,
+        2_047,
+        MOST_FRAMES,
+    ];
+    frames.extend((0..30).map(|_| random.between(FEWEST_FRAMES, MOST_FRAMES)));
+    for frames in frames {
+        let entries = fewest_entries(frames) + random.between(0, 127);
+        let lines = with_frames(frames, entries, random);
+        assert_eq!(refuse_plan(&lines), None);
+        let planned = planned(&lines);
+        let counted = (
+            planned.frames.len() as u64 / 3,
+            planned.words.len() as u64 / 5,
+        );
+        assert_eq!(counted, (frames, entries));
+    }
 }

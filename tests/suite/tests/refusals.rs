@@ -1,11 +1,14 @@
-//! Refusals 2 to 9, alone and two at a time, by everyone who tries them.
+//! Refusals 2 to 9, alone and two at a time, by everyone who tries them; 10 and 11 of a listing.
 
 use generate::broken::{broken, broken_twice, NUMBERS};
 use generate::texts::of_length;
+use generate::Random;
 use reference::lookup::{lookup, Answer};
 use reference::text::{read_form, write, MOST_DIGITS};
-use reference::{c_lookup, check, plan, print, read, refuse_plan, Lines};
-use suite::{for_plans, question, s, FEW};
+use reference::{
+    c_lookup, check, list_plan, plan, print, program, read, refuse_plan, refused, Lines,
+};
+use suite::{about_the_room, for_plans, listed, question, s, FEW};
 
 /// Asserts that everyone who is handed these lines gives the same refusal.
 fn everyone_refuses(lines: &Lines, number: u8) {
@@ -20,6 +23,7 @@ fn everyone_refuses(lines: &Lines, number: u8) {
         assert_eq!(read_form(&text).as_ref(), Some(lines));
         assert_eq!(read(&text), Err(number));
         assert_eq!(c_lookup(&text, &[], asked), u64::MAX - u64::from(number));
+        assert_eq!(list_plan(&text, 0), Err(number));
     } else {
         assert_eq!(read(&text), Err(1));
     }
@@ -68,4 +72,21 @@ fn the_longest_text() {
     assert_eq!(of_length(&s(), 16_384).len(), 16_384);
     assert_eq!(read(&of_length(&s(), 16_384)), Err(2));
     assert_eq!(read(&of_length(&s(), 16_385)), Err(1));
+}
+
+/// A listing that does not fit is 10, also where its frames are too many; one that fits is 10 if its
+/// entries are too many, then 11 if its frames are.
+#[test]
+fn ten_before_eleven_of_a_listing() {
+    for (lines, refusal) in about_the_room(&mut Random::new(13)) {
+        let (text, listing) = (print(&lines), listed(&lines).into_bytes());
+        let length = listing.len();
+        assert_eq!(list_plan(&text, length - 1), Err(10));
+        let (listed, printed) = match refusal {
+            None => (Ok(listing.clone()), listing),
+            Some(number) => (Err(number), refused(number)),
+        };
+        assert_eq!(list_plan(&text, length), listed);
+        assert_eq!(program(&text), printed);
+    }
 }

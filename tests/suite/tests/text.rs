@@ -1,9 +1,8 @@
 //! Plan texts: printing, reading, writing, and damaged texts.
 
 use generate::texts::damaged_texts;
-use reference::listing::write_listing;
 use reference::text::{read_form, write};
-use reference::{print, program, read, refuse_plan};
+use reference::{list_plan, print, program, read, refuse_plan};
 use suite::{for_plans, s, FEW, MANY, S};
 
 #[test]
@@ -39,6 +38,7 @@ fn damaged_texts_get_the_refusal_of_their_damage() {
             if let Err(number) = answer {
                 let refused = format!("(refused {number})\n");
                 assert_eq!(program(&damaged.text), refused.as_bytes());
+                assert_eq!(list_plan(&damaged.text, 0), Err(number));
             }
         }
     });
@@ -69,8 +69,8 @@ fn the_writer_needs_room_for_every_byte() {
 fn a_listing_needs_room_for_every_byte() {
     let listing = program(S.as_bytes());
     let length = listing.len();
-    assert_eq!(write_listing(listing.clone(), length - 1), Err(10));
-    assert_eq!(write_listing(listing.clone(), length), Ok(listing));
+    assert_eq!(list_plan(S.as_bytes(), length - 1), Err(10));
+    assert_eq!(list_plan(S.as_bytes(), length), Ok(listing));
 }
 
 #[test]

@@ -3,10 +3,8 @@
 use mathlib.Core.Path.{sym, ap, _∙_, subst}
 use borrow.Author.Needs.{needs}
 use Rattle.plan.specs.declared.tables.SlotTable.{SlotTable}
-use Rattle.plan.specs.Memory.{lines}
-use Rattle.bus_timetable.specs.declared.Timetable.{Timetable}
-use Rattle.bus_timetable.specs.Bus.{Small, table-of, Timed}
-use Rattle.bus_timetable.proofs.TimetableOfModel.{small, timed}
+use Rattle.bus_timetable.specs.Bus.{Small, table-of}
+use Rattle.bus_timetable.proofs.TimetableOfModel.{small, timetable-same}
 use Rattle.bus_timetable.proofs.of_plan.Statement.{statement}
 use Rattle.bus_timetable.proofs.of_plan.Tie as tie
 
@@ -23,8 +21,8 @@ returns : tie.Need-returns
 returns c =
     let s = c .before .before .before .before .before in
     let p = s .args .p in
-    let made = c .of-slots .ensures ∙ ap (λ (t : SlotTable). table-of (p .byte) (t .node) (t .bytes) (p .slots)) (c .before .before .before .before .slot-table .ensures) in
-    subst (λ (t : Timetable). Timed (lines p) t) (sym made) (timed p (s .pre))
+    let t = c .before .before .before .before .slot-table .ensures in
+    c .of-slots .ensures ∙ ap (λ (t : SlotTable). table-of (p .byte) (t .node) (t .bytes) (p .slots)) t ∙ timetable-same p (s .pre)
 
 pub of-plan-spec : {M : Type 1} → statement M
 of-plan-spec = tie.close (tie.spec slot-table-requires of-slots-requires returns)

@@ -3,7 +3,7 @@
 use mathlib.Core.Path.{refl, sym, ap, _∙_}
 use Rattle.plan.specs.Memory.{lines}
 use Rattle.plan_refusals.specs.Answer.{refusal-of}
-use Rattle.planner.proofs.Answering.{answer-refused, refused-answers}
+use Rattle.planner_table.proofs.Answering.{answer-refused, refused-answers}
 use borrow.Author.Needs.{needs}
 use Rattle.planner.proofs.plan_table.Statement.{statement}
 use Rattle.planner.proofs.plan_table.Tie as tie

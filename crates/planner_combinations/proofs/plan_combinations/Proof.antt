@@ -8,6 +8,7 @@ use borrow.Author.Needs.{needs}
 use lib.ListN.{length, length-replicate}
 use Rattle.model.specs.Plan.{Lines}
 use Rattle.plan_index.specs.declared.index.PlanIndex.{PlanIndex}
+use Rattle.plan_index.specs.Unmet.{unmet-by}
 use Rattle.plan_index.specs.Indexed.{Indexed}
 use Rattle.planner_combination.specs.Events.{from-clock}
 use Rattle.planner_combination.proofs.EventRuns.{fits-read, begins-read, ended-read}
@@ -93,6 +94,12 @@ cast-number c = let l = few (begun (c .before)) in omega arith
 unmet-requires : tie.Need-unmet-requires Inv-loop μ-loop
 unmet-requires c κs = let o = begun (c .before .before .before .before) .before .before .before .before .pre .0 .indexed in (o .few-edges, o .condition-small)
 
+-- the `when`s that the turn's combination leaves unmet
+unmet-own : (u : tie.After-unmet Inv-loop μ-loop) →
+    let l = begun (taken u .before) .before in
+    u .unmet .result ≡ unmet-by (planindex l .kind) (planindex l .condition) (planindex l .edges) (l .loop .c)
+unmet-own u = u .unmet .ensures
+
 plan-combination-requires : tie.Need-plan-combination-requires Inv-loop μ-loop
 unfolding from-clock
 plan-combination-requires c κs =
@@ -104,7 +111,7 @@ plan-combination-requires c κs =
     let e = l .loop .inv .1 .first (d .plan) (d .passes) (d .indexed) .earlier in
     let w = prefix-ready (d .plan) (d .passes) (planindex l) (d .indexed) (l .loop .c) (among i (d .plan) (d .indexed)) (l .loop .comes) (l .loop .place) (l .loop .notes) e _ _ _ _ _ _ (r .shared-prefix .ensures) in (
       fits-read (planindex l) (u .unmet .result) (fits (d .plan) (d .passes) (planindex l) (d .indexed)),
-      begins-read (planindex l) (u .unmet .result) _ _ _ (begins-ready (d .plan) (d .passes) (planindex l) (d .indexed) (l .loop .c) (among i (d .plan) (d .indexed)) (u .unmet .result) (u .unmet .ensures) _ _ _ _ _ _ w),
+      begins-read (planindex l) (u .unmet .result) _ _ _ (begins-ready (d .plan) (d .passes) (planindex l) (d .indexed) (l .loop .c) (among i (d .plan) (d .indexed)) (u .unmet .result) (unmet-own u) _ _ _ _ _ _ w),
       ready-start _ _ _ _ _ _ _ _ w,
       prefix-few (d .plan) (d .passes) (planindex l) (d .indexed) (l .loop .c) (among i (d .plan) (d .indexed)) (l .loop .comes) (l .loop .place) (l .loop .notes) e _ _ _ _ _ _ (r .shared-prefix .ensures),
       ready-long _ _ _ _ _ _ _ _ w,
@@ -123,7 +130,7 @@ store-requires c κs =
     let o = d .indexed in
     let e = l .loop .inv .1 .first p (d .passes) o .earlier in
     let w = prefix-ready p (d .passes) (planindex l) o (l .loop .c) (among i p o) (l .loop .comes) (l .loop .place) (l .loop .notes) e _ _ _ _ _ _ (r .shared-prefix .ensures) in
-    let k = combination-of p (d .passes) (planindex l) o (l .loop .c) (among i p o) (u .unmet .result) (u .unmet .ensures) _ _ _ _ _ _ w _ _ _ _ (ended-read (planindex l) (u .unmet .result) _ _ _ _ _ (x .plan-combination .ensures)) in (
+    let k = combination-of p (d .passes) (planindex l) o (l .loop .c) (among i p o) (u .unmet .result) (unmet-own u) _ _ _ _ _ _ w _ _ _ _ (ended-read (planindex l) (u .unmet .result) _ _ _ _ _ (x .plan-combination .ensures)) in (
       few i,
       o .few-slots,
       k .held .comes-long,
@@ -152,7 +159,7 @@ slice-aggregate-last-end c =
     let o = d .indexed in
     let e = l .loop .inv .1 .first p (d .passes) o .earlier in
     let w = prefix-ready p (d .passes) (planindex l) o (l .loop .c) (among i p o) (l .loop .comes) (l .loop .place) (l .loop .notes) e _ _ _ _ _ _ (r .shared-prefix .ensures) in
-    let k = combination-of p (d .passes) (planindex l) o (l .loop .c) (among i p o) (u .unmet .result) (u .unmet .ensures) _ _ _ _ _ _ w _ _ _ _ (ended-read (planindex l) (u .unmet .result) _ _ _ _ _ (x .plan-combination .ensures)) in
+    let k = combination-of p (d .passes) (planindex l) o (l .loop .c) (among i p o) (u .unmet .result) (unmet-own u) _ _ _ _ _ _ w _ _ _ _ (ended-read (planindex l) (u .unmet .result) _ _ _ _ _ (x .plan-combination .ensures)) in
     sym (k .held .comes-long)
 
 last-end-requires : tie.Need-last-end-requires Inv-loop μ-loop
@@ -182,7 +189,7 @@ loop-again c =
           (few i) (within i) (l .loop .inv .1)
           (λ p f o.
           one-of p f (planindex l) o (l .loop .c) (among i p o) (l .loop .comes) (l .loop .place) (l .loop .notes) (l .loop .inv .1 .first p f o .earlier) _ _ _ _ _ _ (r .shared-prefix .ensures)
-          (u .unmet .result) (u .unmet .ensures) (ended-read (planindex l) (u .unmet .result) _ _ _ _ _ (x .plan-combination .ensures)) (c .before .last-end .ensures) (l .loop .since) (l .loop .passed) (l .loop .inv .1 .passed-long) (c .before .before .before .store .ensures))
+          (u .unmet .result) (unmet-own u) (ended-read (planindex l) (u .unmet .result) _ _ _ _ _ (x .plan-combination .ensures)) (c .before .last-end .ensures) (l .loop .since) (l .loop .passed) (l .loop .inv .1 .passed-long) (c .before .before .before .store .ensures))
           (c .greater .ensures),
     )
 

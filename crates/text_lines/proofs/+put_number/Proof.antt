@@ -1,12 +1,12 @@
 -- The cycle of calls {put_number} of `text_lines` meets its contract: the digits of a tenth of the number are put, then
 -- its last digit. The measure is the number.
 -- Assumes nothing.
-use mathlib.Core.Path.{ap, _∙_}
+use mathlib.Core.Path.{_≡_, ap, _∙_}
 use native.Mathlib.Omega.{arith}
 use lib.ListN.{length}
 use Rattle.text_grammar.proofs.Numbers.{decimal-small, decimal-large}
 use Rattle.text_lines.proofs.Puts.{put-then, counts-first, counts-rest}
-use Prim.Native.Nat.{ℕ, _<_}
+use Prim.Native.Nat.{ℕ, _<_, _+_, _%_}
 use borrow.Fn.Kinds.{In}
 use borrow.Fn.PlainCycle.{Measures, is, falls, and}
 use Rattle.text_lines.proofs.put_number.Reads as put-number
@@ -46,7 +46,8 @@ put-number-same-length t c = c .before .before .put-byte .kept .0
 put-number-returns : (t : ℕ) → put-number-lts.Need-returns (called t) (put-number-at t) put-number.Post
 put-number-returns t c =
     let a = c .before .before .before .before .before .before .before in
-    rw (decimal-small (a .args .n) (omega arith), ← c .before .before .before .digit .ensures) (c .before .before .put-byte .ensures)
+    let d : c .before .before .before .digit .result ≡ 48 + a .args .n = c .before .before .before .digit .ensures in
+    rw (decimal-small (a .args .n) (omega arith), ← d) (c .before .before .put-byte .ensures)
 
 put-number-put-number-requires : (t : ℕ) → put-number-lts.Need-put-number-requires (called t) (put-number-at t) put-number.Post
 put-number-put-number-requires t c κs =
@@ -59,7 +60,7 @@ put-number-digit-requires-2 t c κs = omega arith
 put-number-put-byte-requires-2 : (t : ℕ) → put-number-lts.Need-put-byte-requires-2 (called t) (put-number-at t) put-number.Post
 put-number-put-byte-requires-2 t c κs =
     let a = c .before .before .before .before .before .before .before .before in
-    counts-rest (c .before .before .before .before .put-number .ensures) _ (rw (decimal-large (a .args .n) (omega arith), ← c .digit2 .ensures) at (a .pre .1))
+    record { fits = counts-rest (c .before .before .before .before .put-number .ensures) _ (rw (decimal-large (a .args .n) (omega arith)) at (a .pre .1)) .fits }
 
 put-number-same-length-2 : (t : ℕ) → put-number-lts.Need-same-length-2 (called t) (put-number-at t) put-number.Post
 put-number-same-length-2 t c = c .before .before .put-byte2 .kept .0 ∙ c .before .before .before .before .before .before .before .put-number .kept .0
@@ -67,7 +68,8 @@ put-number-same-length-2 t c = c .before .before .put-byte2 .kept .0 ∙ c .befo
 put-number-returns-2 : (t : ℕ) → put-number-lts.Need-returns-2 (called t) (put-number-at t) put-number.Post
 put-number-returns-2 t c =
     let a = c .before .before .before .before .before .before .before .before .before .before .before in
-    rw (decimal-large (a .args .n) (omega arith), ← c .before .before .before .digit2 .ensures) (put-then (c .before .before .before .before .before .before .before .put-number .ensures) (c .before .before .put-byte2 .ensures))
+    let d : c .before .before .before .digit2 .result ≡ 48 + a .args .n % 10 = c .before .before .before .digit2 .ensures in
+    rw (decimal-large (a .args .n) (omega arith), ← d) (put-then (c .before .before .before .before .before .before .before .put-number .ensures) (c .before .before .put-byte2 .ensures))
 
 pub +put-number-spec : {M : Type 1} → statement M
 +put-number-spec = close μ-put-number λ t. put-number-lts.spec (called t)

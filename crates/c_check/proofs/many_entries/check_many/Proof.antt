@@ -8,9 +8,11 @@ use borrow.Author.Needs.{needs}
 use Rattle.model.specs.Firmware.{words-of}
 use Rattle.plan.specs.Memory.{lines}
 use Rattle.c_words.proofs.Reading.{words-small}
+use Rattle.plan_index.specs.Indexed.{Indexed}
+use Rattle.plan_index.proofs.IndexOfLines.{indexed-lines}
 use Rattle.checker_rows.specs.MetRows.{Small}
 use Rattle.checker_rules.proofs.FormOfModel.{formed-told}
-use Rattle.checker.proofs.FirstAnswers.{answer-13}
+use Rattle.checker_table.proofs.FirstAnswers.{answer-13}
 use Rattle.c_check.proofs.ManyRefused.{answer-14}
 use Rattle.c_check.proofs.many_entries.check_many.Statement.{statement}
 use Rattle.c_check.proofs.many_entries.check_many.Tie as tie
@@ -18,11 +20,15 @@ use Rattle.c_check.proofs.many_entries.check_many.Tie as tie
 of-plan-requires : tie.Need-of-plan-requires
 of-plan-requires c κs = search needs
 
+-- what the plan index says of the plan
+indexed : (c : tie.After-of-plan) → Indexed (lines (c .before .before .args .p)) (c .of-plan .result)
+indexed c = let s = c .before .before in indexed-lines (s .args .p) (s .pre .0) (c .of-plan .ensures)
+
 combinations-of-requires : tie.Need-combinations-of-requires
-combinations-of-requires c κs = search needs
+combinations-of-requires c κs = search (needs, indexed c)
 
 some-ill-formed-requires : tie.Need-some-ill-formed-requires
-some-ill-formed-requires c κs = search needs
+some-ill-formed-requires c κs = search (needs, indexed (c .before .before .before))
 
 returns : tie.Need-returns
 returns c =
@@ -35,7 +41,7 @@ returns c =
     let words = words-of (a .bytes .now) in
     let small : Small words = words-small (a .bytes .now) (λ i. omega (arith, known .shared-slice-known .given i)) in
     answer-13 (lines (a .p)) words (a .delay) (ap (λ (n : ℕ). n % 5) (sym (s .pre .1 .0)) ∙ s .pre .1 .1)
-    (formed-told (lines (a .p)) (planindex .of-plan .result) (planindex .of-plan .ensures) (many .combinations-of .result) (many .combinations-of .ensures .0) words small
+    (formed-told (lines (a .p)) (planindex .of-plan .result) (indexed planindex) (many .combinations-of .result) (many .combinations-of .ensures .0) words small
     (told .some-ill-formed .ensures) (c .if1 .taken))
 
 returns-2 : tie.Need-returns-2
@@ -49,7 +55,7 @@ returns-2 c =
     let words = words-of (a .bytes .now) in
     let small : Small words = words-small (a .bytes .now) (λ i. omega (arith, known .shared-slice-known .given i)) in
     answer-14 (lines (a .p)) words (a .delay) (s .pre .0) (ap (λ (n : ℕ). n % 5) (sym (s .pre .1 .0)) ∙ s .pre .1 .1)
-    (formed-told (lines (a .p)) (planindex .of-plan .result) (planindex .of-plan .ensures) (many .combinations-of .result) (many .combinations-of .ensures .0) words small
+    (formed-told (lines (a .p)) (planindex .of-plan .result) (indexed planindex) (many .combinations-of .result) (many .combinations-of .ensures .0) words small
     (told .some-ill-formed .ensures) (c .if1 .left))
     (omega (arith, s .pre .1 .0, s .pre .1 .2))
 

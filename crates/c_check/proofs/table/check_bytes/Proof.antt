@@ -5,7 +5,7 @@ use Prim.Native.Nat.{ℕ, _%_}
 use borrow.Author.Needs.{needs}
 use Rattle.model.specs.Firmware.{words-of}
 use Rattle.plan.specs.Memory.{lines}
-use Rattle.checker.proofs.FirstAnswers.{answer-12}
+use Rattle.checker_table.proofs.FirstAnswers.{answer-12}
 use Rattle.c_check.proofs.table.check_bytes.Statement.{statement}
 use Rattle.c_check.proofs.table.check_bytes.Tie as tie
 

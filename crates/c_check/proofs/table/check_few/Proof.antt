@@ -10,7 +10,7 @@ use borrow.Author.Needs.{needs}
 use Rattle.model.specs.Firmware.{words-of}
 use Rattle.model.specs.Checking.{table-refusal}
 use Rattle.plan.specs.Memory.{lines}
-use Rattle.checker.specs.Verdict.{answer-of}
+use Rattle.checker_table.specs.Verdict.{answer-of}
 use Rattle.c_words.proofs.Room.{entry-room}
 use Rattle.c_check.proofs.Copied.{copy-fits, copy-back}
 use Rattle.c_check.proofs.table.check_few.Statement.{statement}

@@ -3,7 +3,7 @@
 use mathlib.Core.Path.{sym, _∙_}
 use native.Mathlib.Omega.{arith}
 use borrow.Author.Needs.{needs}
-use Rattle.planner.proofs.Given.{stands}
+use Rattle.planner_table.proofs.Given.{stands}
 use Rattle.c_plan.proofs.Putting.{refusal-put, made-put}
 use Rattle.c_plan.proofs.table.put_planned.Statement.{statement}
 use Rattle.c_plan.proofs.table.put_planned.Tie as tie

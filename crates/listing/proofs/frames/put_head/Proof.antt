@@ -1,10 +1,11 @@
 -- `listing::put_head` meets its contract: the labelled numbers are stored, then the end of the line.
 -- Assumes nothing.
-use Rattle.model.specs.Text.{text}
-use Rattle.text_lines.specs.Label.{labelled}
+use native.Mathlib.Omega.{arith}
+use lib.ListN.{length-append}
 use Rattle.listing_count.specs.Parts.{head-of}
+use Rattle.listing_count.proofs.Lengths.{head-length}
 use Rattle.text_lines.proofs.Puts.{put-then}
-use Rattle.listing_bytes.proofs.Stored.{fits-first, fits-rest}
+use Rattle.listing_bytes.proofs.Stored.{fits-less, fits-behind}
 use borrow.Author.Needs.{needs}
 use Rattle.listing.proofs.frames.put_head.Statement.{statement}
 use Rattle.listing.proofs.frames.put_head.Tie as tie
@@ -13,28 +14,25 @@ slice-aggregate-put-labelled : tie.Need-slice-aggregate-put-labelled
 slice-aggregate-put-labelled c = search needs
 
 put-labelled-requires : tie.Need-put-labelled-requires
-unfolding head-of
 put-labelled-requires c κs =
     let a = c .before .before .before in
-    fits-first (labelled "(delay " (a .args .delay)) _ (a .pre)
+    fits-less (a .pre) (simp length-append (omega (arith, head-length (a .args .delay) (a .args .passed))))
 
 slice-aggregate-put-labelled-2 : tie.Need-slice-aggregate-put-labelled-2
 slice-aggregate-put-labelled-2 c = search needs
 
 put-labelled-requires-2 : tie.Need-put-labelled-requires-2
-unfolding head-of
 put-labelled-requires-2 c κs =
     let a = c .before .before .before .before .before .before .before .before in
-    fits-first (labelled ")\n(passed " (a .args .passed)) _ (fits-rest (c .before .before .before .before .put-labelled .ensures) _ (a .pre))
+    fits-behind (c .before .before .before .before .put-labelled .ensures) (a .pre) (simp length-append (omega (arith, head-length (a .args .delay) (a .args .passed))))
 
 slice-aggregate-put-word : tie.Need-slice-aggregate-put-word
 slice-aggregate-put-word c = search needs
 
 put-word-requires : tie.Need-put-word-requires
-unfolding head-of
 put-word-requires c κs =
     let a = c .before .before .before .before .before .before .before .before .before .before .before .before .before in
-    fits-rest (c .before .before .before .before .put-labelled2 .ensures) (text ")\n") (fits-rest (c .before .before .before .before .before .before .before .before .before .put-labelled .ensures) _ (a .pre))
+    fits-behind (put-then (c .before .before .before .before .before .before .before .before .before .put-labelled .ensures) (c .before .before .before .before .put-labelled2 .ensures)) (a .pre) (simp length-append (omega (arith, head-length (a .args .delay) (a .args .passed))))
 
 same-length : tie.Need-same-length
 same-length c = search needs

@@ -1,6 +1,6 @@
 -- `listing::frames` meets its contract: a walk of its MIR, by hand. The slice is lent again to `put_frames`, for a
--- lifetime that is made for the call, and comes back at the list that `put_frames` left (`text`'s `Again.antt`). It
--- goes into the result, beside the number that `put_frames` returned.
+-- lifetime that is made for the call, and comes back at the list that `put_frames` left (`text_lines`'s `Again.antt`).
+-- It goes into the result, beside the number that `put_frames` returned.
 -- All that the proof knows of `put_frames` is that it meets its contract. The parameter is spent, since the result
 -- names its lifetime (`Held.antt`'s `writer-spent`).
 -- Assumes nothing.

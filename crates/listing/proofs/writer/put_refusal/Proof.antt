@@ -1,5 +1,4 @@
--- `listing::put_refusal` meets its contract: the labelled number is stored through the line writer, then the end of the
--- line.
+-- `listing::put_refusal` meets its contract: the labelled number is put, then the end of the line.
 -- Assumes nothing.
 use native.Mathlib.Omega.{arith}
 use Rattle.model.specs.Text.{text}

@@ -1,5 +1,6 @@
 -- `listing::write_listing` meets its contract: the listing is that of document 01, and it is stored where the lent
--- bytes have room.
+-- bytes have room. What is answered and stored stands before what the calls need, so that a wrong program fails first
+-- where the contract does.
 -- Assumes nothing.
 use mathlib.Core.Path.{sym, _∙_}
 use borrow.Author.Tests.{ltb-true, ltb-false}
@@ -13,6 +14,13 @@ use Rattle.listing.proofs.writer.write_listing.Tie as tie
 
 exceeds-requires : tie.Need-exceeds-requires
 exceeds-requires c κs = search needs
+
+returns-2 : tie.Need-returns-2
+returns-2 c =
+    let a = c .before .before .before .before .before .before .before .before .before .args in
+    let bytes = listing-of (a .p .processes) (a .p .edges) (a .p .conditions) (a .delay) (a .passed) (a .table .now) (a .frames .now) in
+    rw (plan-listing (a .p) (a .delay) (a .passed) (a .table .now) (a .frames .now))
+    (stored-all (c .before .before .put-listing .ensures) (ltb-false (length (a .out .now)) (length bytes) (sym (c .before .before .before .before .before .exceeds .ensures) ∙ c .before .before .before .before .if1 .left)))
 
 returns : tie.Need-returns
 returns c =
@@ -29,13 +37,6 @@ put-listing-requires c κs =
 
 same-length : tie.Need-same-length
 same-length c = search needs
-
-returns-2 : tie.Need-returns-2
-returns-2 c =
-    let a = c .before .before .before .before .before .before .before .before .before .args in
-    let bytes = listing-of (a .p .processes) (a .p .edges) (a .p .conditions) (a .delay) (a .passed) (a .table .now) (a .frames .now) in
-    rw (plan-listing (a .p) (a .delay) (a .passed) (a .table .now) (a .frames .now))
-    (stored-all (c .before .before .put-listing .ensures) (ltb-false (length (a .out .now)) (length bytes) (sym (c .before .before .before .before .before .exceeds .ensures) ∙ c .before .before .before .before .if1 .left)))
 
 pub write-listing-spec : {M : Type 1} → statement M
 write-listing-spec =

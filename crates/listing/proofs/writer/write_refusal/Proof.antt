@@ -1,4 +1,5 @@
--- `listing::write_refusal` meets its contract: the line is stored where the lent bytes have room.
+-- `listing::write_refusal` meets its contract: the line is stored where the lent bytes have room. What is answered and
+-- stored stands before what the calls need, so that a wrong program fails first where the contract does.
 -- Assumes nothing.
 use native.Mathlib.Omega.{arith}
 use Rattle.model.specs.Listing.{refused-line}
@@ -14,6 +15,11 @@ digits-requires c κs = search needs
 add-if1 : tie.Need-add-if1
 add-if1 c = search needs
 
+returns-2 : tie.Need-returns-2
+returns-2 c =
+    let a = c .before .before .before .before .before .before .before .args in
+    stored-all (c .before .before .put-refusal .ensures) (omega (arith, refused-length (a .number), c .before .before .before .before .before .digits .ensures .0))
+
 returns : tie.Need-returns
 returns c =
     let a = c .before .before .before .args in
@@ -26,11 +32,6 @@ put-refusal-requires c κs =
 
 same-length : tie.Need-same-length
 same-length c = search needs
-
-returns-2 : tie.Need-returns-2
-returns-2 c =
-    let a = c .before .before .before .before .before .before .before .args in
-    stored-all (c .before .before .put-refusal .ensures) (omega (arith, refused-length (a .number), c .before .before .before .before .before .digits .ensures .0))
 
 pub write-refusal-spec : {M : Type 1} → statement M
 write-refusal-spec =

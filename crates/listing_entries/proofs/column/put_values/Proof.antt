@@ -3,6 +3,7 @@
 -- Assumes nothing.
 use native.Mathlib.Omega.{arith}
 use Rattle.listing_count.proofs.Cases.{values-same}
+use Rattle.listing_entries.proofs.SetCounts.{sets-most}
 use borrow.Author.Needs.{needs}
 use Rattle.listing_entries.proofs.column.put_values.Statement.{statement}
 use Rattle.listing_entries.proofs.column.put_values.Tie as tie
@@ -10,7 +11,8 @@ use Rattle.listing_entries.proofs.column.put_values.Tie as tie
 put-six-requires : tie.Need-put-six-requires
 put-six-requires c κs =
     let a = c .before .before .before in
-    rw (values-same (a .args .conditions) 6 (a .args .known) (a .args .values) 0 (omega (arith, a .pre .1)) (omega (arith, a .pre .0))) at (a .pre .2)
+    let m = sets-most (a .args .conditions) in
+    rw (values-same (a .args .conditions) 6 (a .args .known) (a .args .values) 0 (omega (arith, a .pre .0, m .1)) (omega (arith, a .pre .0, m .0))) at (a .pre .1)
 
 same-length : tie.Need-same-length
 same-length c = search needs
@@ -18,7 +20,8 @@ same-length c = search needs
 returns : tie.Need-returns
 returns c =
     let a = c .before .before .before .before .before .before in
-    rw (values-same (a .args .conditions) 6 (a .args .known) (a .args .values) 0 (omega (arith, a .pre .1)) (omega (arith, a .pre .0))) (c .before .before .put-six .ensures)
+    let m = sets-most (a .args .conditions) in
+    rw (values-same (a .args .conditions) 6 (a .args .known) (a .args .values) 0 (omega (arith, a .pre .0, m .1)) (omega (arith, a .pre .0, m .0))) (c .before .before .put-six .ensures)
 
 put-each-requires : tie.Need-put-each-requires
 put-each-requires c κs = search needs

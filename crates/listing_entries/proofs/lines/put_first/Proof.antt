@@ -1,10 +1,11 @@
 -- `listing_entries::put_first` meets its contract: the row tells which text is stored.
 -- Assumes nothing.
-use mathlib.Core.Path.{refl}
 use native.Mathlib.Omega.{arith}
 use Prim.Native.Nat.{_-_}
-use Rattle.model.specs.Text.{text}
-use Rattle.listing_entries.proofs.LineEnds.{put-holds, begin-fits, begin-start, begin-send, begin-tell, begin-none}
+use lib.ListN.{length-append}
+use Rattle.text_grammar.proofs.Numbers.{decimal-length}
+use Rattle.text_lines.proofs.Puts.{put-none}
+use Rattle.listing_entries.proofs.LineEnds.{fits-most, begin-start, begin-send, begin-tell, begin-none}
 use borrow.Author.Needs.{needs}
 use Rattle.listing_entries.proofs.lines.put_first.Statement.{statement}
 use Rattle.listing_entries.proofs.lines.put_first.Tie as tie
@@ -15,7 +16,7 @@ slice-aggregate-put-begin c = search needs
 put-begin-requires : tie.Need-put-begin-requires
 put-begin-requires c κs =
     let a = c .before .before .before .before in
-    begin-fits (text "(start ") (a .args .row) (omega arith) (omega arith) (a .pre)
+    fits-most (a .pre) (simp length-append (omega (arith, decimal-length 9 (a .args .row) (omega arith))))
 
 same-length : tie.Need-same-length
 same-length c = search needs
@@ -23,7 +24,7 @@ same-length c = search needs
 returns : tie.Need-returns
 returns c =
     let a = c .before .before .before .before .before .before .before in
-    rw (begin-start (a .args .processes) (a .args .edges) (a .args .conditions) (a .args .row) (omega arith)) (put-holds (c .before .before .put-begin .ensures) (begin-fits (text "(start ") (a .args .row) (omega arith) (omega arith) (a .pre)))
+    rw (begin-start (a .args .processes) (a .args .edges) (a .args .conditions) (a .args .row) (omega arith)) (c .before .before .put-begin .ensures)
 
 slice-aggregate-put-begin-2 : tie.Need-slice-aggregate-put-begin-2
 slice-aggregate-put-begin-2 c = search needs
@@ -34,7 +35,7 @@ cast-put-begin c = search needs
 put-begin-requires-2 : tie.Need-put-begin-requires-2
 put-begin-requires-2 c κs =
     let a = c .before .before .before .before .before in
-    begin-fits (text "(send ") (a .args .row - a .args .processes) (omega arith) (omega arith) (a .pre)
+    fits-most (a .pre) (simp length-append (omega (arith, decimal-length 9 (a .args .row - a .args .processes) (omega arith))))
 
 same-length-2 : tie.Need-same-length-2
 same-length-2 c = search needs
@@ -42,7 +43,7 @@ same-length-2 c = search needs
 returns-2 : tie.Need-returns-2
 returns-2 c =
     let a = c .before .before .before .before .before .before .before .before in
-    rw (begin-send (a .args .processes) (a .args .edges) (a .args .conditions) (a .args .row) (omega arith) (omega arith)) (put-holds (c .before .before .put-begin2 .ensures) (begin-fits (text "(send ") (a .args .row - a .args .processes) (omega arith) (omega arith) (a .pre)))
+    rw (begin-send (a .args .processes) (a .args .edges) (a .args .conditions) (a .args .row) (omega arith) (omega arith)) (c .before .before .put-begin2 .ensures)
 
 slice-aggregate-put-begin-3 : tie.Need-slice-aggregate-put-begin-3
 slice-aggregate-put-begin-3 c = search needs
@@ -53,7 +54,7 @@ cast-put-begin-2 c = search needs
 put-begin-requires-3 : tie.Need-put-begin-requires-3
 put-begin-requires-3 c κs =
     let a = c .before .before .before .before .before .before in
-    begin-fits (text "(tell ") (a .args .row - a .args .processes - a .args .edges) (omega arith) (omega arith) (a .pre)
+    fits-most (a .pre) (simp length-append (omega (arith, decimal-length 9 (a .args .row - a .args .processes - a .args .edges) (omega arith))))
 
 same-length-3 : tie.Need-same-length-3
 same-length-3 c = search needs
@@ -61,12 +62,12 @@ same-length-3 c = search needs
 returns-3 : tie.Need-returns-3
 returns-3 c =
     let a = c .before .before .before .before .before .before .before .before .before in
-    rw (begin-tell (a .args .processes) (a .args .edges) (a .args .conditions) (a .args .row) (omega arith) (omega arith) (omega arith)) (put-holds (c .before .before .put-begin3 .ensures) (begin-fits (text "(tell ") (a .args .row - a .args .processes - a .args .edges) (omega arith) (omega arith) (a .pre)))
+    rw (begin-tell (a .args .processes) (a .args .edges) (a .args .conditions) (a .args .row) (omega arith) (omega arith) (omega arith)) (c .before .before .put-begin3 .ensures)
 
 returns-4 : tie.Need-returns-4
 returns-4 c =
     let a = c .before .before .before .before in
-    rw (begin-none (a .args .processes) (a .args .edges) (a .args .conditions) (a .args .row) (omega arith) (omega arith) (omega arith)) (record { within = omega arith; taken = refl })
+    rw (begin-none (a .args .processes) (a .args .edges) (a .args .conditions) (a .args .row) (omega arith) (omega arith) (omega arith)) (put-none _ _)
 
 pub put-first-spec : {M : Type 1} → statement M
 put-first-spec =

@@ -12,7 +12,7 @@ use Rattle.listing_entries.proofs.lines.put_line.Tie as tie
 put-long-requires : tie.Need-put-long-requires
 put-long-requires c κs =
     let a = c .before .before .before .before .before in
-    (a .pre .0, fits-first (a .args .begin .now) _ (a .pre .5))
+    (a .pre .0, fits-first (a .args .begin .now) _ (a .pre .4))
 
 add-put-values : tie.Need-add-put-values
 add-put-values c = search needs
@@ -36,12 +36,12 @@ put-values-requires : tie.Need-put-values-requires
 put-values-requires c κs =
     let a = c .before .before .before .before .before .before .before .before .before .before .before in
     let ws = a .args .table .now in
-    (a .pre .2, a .pre .3, fits-first (values-from (a .args .conditions) (getD ws (a .args .i + 1) 0) (getD ws (a .args .i + 2) 0) 0) (a .args .last .now) (fits-rest (c .before .before .before .before .before .put-long .ensures) _ (a .pre .5)))
+    (a .pre .2, fits-first (values-from (a .args .conditions) (getD ws (a .args .i + 1) 0) (getD ws (a .args .i + 2) 0) 0) (a .args .last .now) (fits-rest (c .before .before .before .before .before .put-long .ensures) _ (a .pre .4)))
 
 put-long-requires-2 : tie.Need-put-long-requires-2
 put-long-requires-2 c κs =
     let a = c .before .before .before .before .before .before .before .before .before .before .before .before .before .before .before in
-    (a .pre .1, fits-rest (c .before .before .before .put-values .ensures) (a .args .last .now) (fits-rest (c .before .before .before .before .before .before .before .before .before .put-long .ensures) _ (a .pre .5)))
+    (a .pre .1, fits-rest (c .before .before .before .put-values .ensures) (a .args .last .now) (fits-rest (c .before .before .before .before .before .before .before .before .before .put-long .ensures) _ (a .pre .4)))
 
 same-length : tie.Need-same-length
 same-length c = search needs

@@ -8,6 +8,7 @@ use Rattle.listing_count.specs.Parts.{entry-text, entries-text}
 use Rattle.listing_count.proofs.Words.{entries-end}
 use Rattle.listing_bytes.specs.Going.{Going}
 use Rattle.listing_bytes.proofs.Stored.{going-start, going-length, going-fits, going-on, going-end}
+use Rattle.listing_entries.proofs.Leading.{same-within}
 use Rattle.listing_entries.proofs.rows.put_entries.Statement.{statement}
 use Rattle.listing_entries.proofs.rows.put_entries.Tie as tie
 
@@ -31,17 +32,23 @@ put-row-requires : tie.Need-put-row-requires Inv-loop μ-loop
 put-row-requires c κs =
     let l = c .before .before .loop in
     let s = c .before .before .before .known-sets .ensures in
-    (omega arith, s .0, s .1, going-fits (l .inv .1) (c .before .before .before .before .before .before .pre))
+    (omega arith, s, going-fits (l .inv .1) (c .before .before .before .before .before .before .pre))
 
 loop-less : tie.Need-loop-less Inv-loop μ-loop
 loop-less c =
+    let l = c .before .before .before .before .before .loop in
+    let a = c .before .before .before .before .before .before .before .before .before .args in
     let r = c .before .before .put-row .ensures in
-    omega (arith, r .forth, r .within)
+    let s = same-within (a .processes) (a .edges) (a .conditions) (a .table .now) (l .i) (omega arith) in
+    omega (arith, r .words, s .0, s .1)
 
 loop-again : tie.Need-loop-again Inv-loop μ-loop
 loop-again c =
+    let l = c .before .before .before .before .before .loop in
+    let a = c .before .before .before .before .before .before .before .before .before .args in
     let r = c .before .before .put-row .ensures in
-    (r .within, going-on (c .before .before .before .before .before .loop .inv .1) (r .going))
+    let s = same-within (a .processes) (a .edges) (a .conditions) (a .table .now) (l .i) (omega arith) in
+    (omega (arith, r .words, s .1), going-on (l .inv .1) (r .going))
 
 same-length : tie.Need-same-length Inv-loop μ-loop
 same-length c = going-length (c .before .loop .inv .1)

@@ -1,11 +1,14 @@
 -- `listing_entries::put_row` meets its contract: how the lines begin is worked out, and a row that the plan lacks has
 -- no line.
 -- Assumes nothing.
-use mathlib.Core.Path.{sym, _∙_}
+use mathlib.Core.Path.{_≡_, sym, _∙_}
 use native.Mathlib.Omega.{arith}
+use lib.ListN.{length, getD}
 use lib.Seq.{length-take-le}
 use Rattle.listing_bytes.proofs.Stored.{going-start}
-use Rattle.listing_entries.proofs.LineEnds.{holds-length}
+use Rattle.listing_entries.specs.Lines.{begin-of}
+use Rattle.listing_entries.proofs.LineEnds.{put-front, begin-most}
+use Rattle.listing_entries.proofs.Leading.{same-none, same-some}
 use Rattle.listing_entries.proofs.RunLines.{run-none}
 use borrow.Author.Needs.{needs}
 use Rattle.listing_entries.proofs.rows.put_row.Statement.{statement}
@@ -29,27 +32,43 @@ add-t17 c = search needs
 returns : tie.Need-returns
 returns c =
     let a = c .before .before .before .before .before .before .before in
-    let h = c .before .before .put-first .ensures in
-    let e = run-none (a .args .processes) (a .args .edges) (a .args .conditions) (a .args .table .now) (a .args .first) (a .pre .0) (holds-length h ∙ c .if1 .taken) in
-    record { forth = omega arith; within = a .pre .0; going = rw e (going-start _ _ _) }
+    let ws = a .args .table .now in
+    let none : length (begin-of (a .args .processes) (a .args .edges) (a .args .conditions) (getD ws (a .args .first) 0)) ≡ 0 = omega (arith, c .before .before .put-first .ensures .count, c .if1 .taken) in
+    let e = run-none (a .args .processes) (a .args .edges) (a .args .conditions) ws (a .args .first) (a .pre .0) none in
+    let n = same-none (a .args .processes) (a .args .edges) (a .args .conditions) ws (a .args .first) none in
+    record { words = omega (arith, n); going = rw e (going-start _ _ _) }
 
 array-share-prefix-begin : tie.Need-array-share-prefix-begin
-array-share-prefix-begin c = search needs
+array-share-prefix-begin c =
+    let k = c .before .before .before in
+    let a = k .before .before .before .before .before .args in
+    let most = begin-most (a .processes) (a .edges) (a .conditions) (getD (a .table .now) (a .first) 0) (omega (arith, k .before .shared-slice-known2 .given (a .first))) in
+    omega (arith, k .put-first .ensures .count, most)
 
 slice-aggregate-put-runs : tie.Need-slice-aggregate-put-runs
-slice-aggregate-put-runs c = sym (length-take-le _ _ (c .before .before .before .before .put-first .ensures .within))
+slice-aggregate-put-runs c =
+    let k = c .before .before .before .before in
+    let a = k .before .before .before .before .before .args in
+    let most = begin-most (a .processes) (a .edges) (a .conditions) (getD (a .table .now) (a .first) 0) (omega (arith, k .before .shared-slice-known2 .given (a .first))) in
+    sym (length-take-le _ _ (put-front (k .put-first .ensures) (omega (arith, most)) .0))
 
 put-runs-requires : tie.Need-put-runs-requires
 put-runs-requires c κs =
-    let a = c .before .before .before .before .before .before .before .before .before in
-    let h = c .before .before .before .before .put-first .ensures in
-    (a .pre .0, record { whole = h .taken; some = λ none. c .before .before .if1 .left (sym (length-take-le _ _ (h .within)) ∙ none) }, a .pre .1, a .pre .2, a .pre .3)
+    let k = c .before .before .before .before in
+    let a = k .before .before .before .before .before .args in
+    let most = begin-most (a .processes) (a .edges) (a .conditions) (getD (a .table .now) (a .first) 0) (omega (arith, k .before .shared-slice-known2 .given (a .first))) in
+    let h = put-front (k .put-first .ensures) (omega (arith, most)) in
+    let pre = k .before .before .before .before .before .pre in
+    (pre .0, record { whole = h .1; some = λ none. c .before .before .if1 .left (sym (length-take-le _ _ (h .0)) ∙ none) }, pre .1, pre .2)
 
 same-length : tie.Need-same-length
 same-length c = search needs
 
 returns-2 : tie.Need-returns-2
-returns-2 c = search needs
+returns-2 c =
+    let a = c .before .before .before .before .before .before .before .before .before .before .before .before .args in
+    let k = c .before .before .before .before .before .before .before in
+    rw (same-some (a .processes) (a .edges) (a .conditions) (a .table .now) (a .first) (λ none. c .before .before .before .before .before .if1 .left (omega (arith, k .put-first .ensures .count, none)))) (c .before .before .put-runs .ensures)
 
 pub put-row-spec : {M : Type 1} → statement M
 put-row-spec =

@@ -2,8 +2,10 @@
 -- Assumes nothing.
 use mathlib.Core.Path.{sym, ap, _∙_}
 use Prim.Native.Nat.{_+_}
+use native.Mathlib.Omega.{arith}
 use lib.ListN.{length, getD}
 use lib.Seq.{length-take-le}
+use Rattle.listing_entries.proofs.LineEnds.{put-front, end-most}
 use Rattle.listing_entries.proofs.RunLines.{lined}
 use borrow.Author.Needs.{needs}
 use Rattle.listing_entries.proofs.rows.put_run.Statement.{statement}
@@ -40,20 +42,37 @@ put-end-requires : tie.Need-put-end-requires
 put-end-requires c κs = search needs
 
 array-share-prefix-last : tie.Need-array-share-prefix-last
-array-share-prefix-last c = search needs
+array-share-prefix-last c =
+    let k = c .before .before in
+    let a = k .before .before .before .before .before .before .before .before in
+    let ws = a .args .table .now in
+    let first = a .args .first in
+    let given = k .before .before .shared-slice-known5 .given in
+    let most = end-most (a .args .processes) (getD ws first 0) (getD ws (first + 3) 0) (getD ws (first + 4) 0) (omega (arith, given (first + 3))) (omega (arith, given (first + 4))) in
+    omega (arith, k .put-end .ensures .count, most)
 
 slice-aggregate-put-lines : tie.Need-slice-aggregate-put-lines
-slice-aggregate-put-lines c = sym (length-take-le _ _ (c .before .before .before .put-end .ensures .within))
+slice-aggregate-put-lines c =
+    let k = c .before .before .before in
+    let a = k .before .before .before .before .before .before .before .before in
+    let ws = a .args .table .now in
+    let first = a .args .first in
+    let given = k .before .before .shared-slice-known5 .given in
+    let most = end-most (a .args .processes) (getD ws first 0) (getD ws (first + 3) 0) (getD ws (first + 4) 0) (omega (arith, given (first + 3))) (omega (arith, given (first + 4))) in
+    sym (length-take-le _ _ (put-front (k .put-end .ensures) (omega (arith, most)) .0))
 
 put-lines-requires : tie.Need-put-lines-requires
 put-lines-requires c κs =
-    let a = c .before .before .before .before .before .before .before .before .before .before .before in
-    let h = a .pre .1 in
-    let g = c .before .before .before .put-end .ensures in
+    let k = c .before .before .before in
+    let a = k .before .before .before .before .before .before .before .before in
     let ws = a .args .table .now in
     let first = a .args .first in
+    let given = k .before .before .shared-slice-known5 .given in
+    let most = end-most (a .args .processes) (getD ws first 0) (getD ws (first + 3) 0) (getD ws (first + 4) 0) (omega (arith, given (first + 3))) (omega (arith, given (first + 4))) in
+    let h = a .pre .1 in
+    let g = put-front (k .put-end .ensures) (omega (arith, most)) in
     let m = lined (a .args .processes) (a .args .edges) (a .args .conditions) (getD ws first 0) (getD ws (first + 3) 0) (getD ws (first + 4) 0) (λ none. h .some (ap length (h .whole) ∙ none)) in
-    (a .pre .0, rw (h .whole, g .taken) m, a .pre .2, a .pre .3, a .pre .4)
+    (a .pre .0, rw (h .whole, g .1) m, a .pre .2, a .pre .3)
 
 same-length : tie.Need-same-length
 same-length c = search needs

@@ -1,15 +1,11 @@
--- `plan_index::of_plan` meets its contract: the plan index of the plan's tables, orders and timetable says of it what
--- the model says.
+-- `plan_index::of_plan` meets its contract: the plan index of the plan's tables, orders and timetable is that of its
+-- lines.
 -- Assumes nothing.
-use mathlib.Core.Path.{sym, _∙_, subst}
+use mathlib.Core.Path.{_∙_}
 use borrow.Author.Needs.{needs}
-use Rattle.plan.specs.Memory.{lines}
-use Rattle.plan_index.specs.declared.index.PlanIndex.{PlanIndex}
 use Rattle.plan_index.specs.Layout.{index-of}
-use Rattle.plan_index.specs.Indexed.{Indexed}
-use Rattle.plan_index.proofs.Lengths.{long}
 use Rattle.plan_index.proofs.Columns.{few, small}
-use Rattle.plan_index.proofs.IndexOfModel.{indexed}
+use Rattle.plan_index.proofs.IndexOfLines.{index-same}
 use Rattle.plan_index.proofs.index.of_plan.Statement.{statement}
 use Rattle.plan_index.proofs.index.of_plan.Tie as tie
 
@@ -39,11 +35,11 @@ returns c =
     let p = s .args .p in
     let q = c .before .before .before .before .before .process-table .ensures in
     let e = c .before .before .before .before .edge-table .ensures in
-    let o = c .before .before .before .fixed-orders in
-    let t = c .before .before .of-plan in
+    let o = c .before .before .before .fixed-orders .ensures in
+    let t = c .before .before .of-plan .ensures in
     let d = c .before .deciders .ensures in
-    let made = c .laid-out .ensures ∙ (λ j. index-of (p .processes) (p .edges) (p .conditions) (p .slots) (q j) (e j) (o .result) (t .result) (d j)) in
-    subst (λ (b : PlanIndex). Indexed (lines p) b) (sym made) (indexed p (s .pre) (o .result) (o .ensures) (long (o .result) _ (o .ok)) (t .result) (t .ensures))
+    let made = c .laid-out .ensures ∙ (λ j. index-of (p .processes) (p .edges) (p .conditions) (p .slots) (q j) (e j) (o j) (t j) (d j)) in
+    made ∙ index-same p (s .pre)
 
 pub of-plan-spec : {M : Type 1} → statement M
 of-plan-spec =

@@ -1,8 +1,9 @@
 -- `plan_index::is_unmet` meets its contract.
 -- Assumes nothing.
-use mathlib.Core.Path.{_∙_}
+use mathlib.Core.Path.{_≡_, _∙_}
 use borrow.Author.Tests.{eq-eqb, ne-eqb}
 use borrow.Author.Needs.{needs}
+use Rattle.plan_index.specs.Unmet.{differs}
 use Rattle.plan_index.proofs.unmet_whens.is_unmet.Statement.{statement}
 use Rattle.plan_index.proofs.unmet_whens.is_unmet.Tie as tie
 
@@ -19,7 +20,9 @@ differ-requires-2 : tie.Need-differ-requires-2
 differ-requires-2 c κs = search needs
 
 returns-3 : tie.Need-returns-3
-returns-3 c = c .differ2 .ensures ∙ (rw (ne-eqb _ _ (c .before .before .if1 .left), ne-eqb _ _ (c .before .if2 .left)))
+returns-3 c =
+    let d : c .differ2 .result ≡ differs (c .before .before .before .args .value) 0 = c .differ2 .ensures in
+    d ∙ (rw (ne-eqb _ _ (c .before .before .if1 .left), ne-eqb _ _ (c .before .if2 .left)))
 
 pub is-unmet-spec : {M : Type 1} → statement M
 is-unmet-spec = tie.close (tie.spec returns differ-requires returns-2 differ-requires-2 returns-3)

@@ -1,22 +1,14 @@
 -- `plan_order::fixed_orders` meets its contract: each group is what the model says of the lines of the plan.
 -- Assumes nothing.
-use mathlib.Core.Path.{sym, ap, _∙_, subst}
-use mathlib.Core.List.{List}
-use Prim.Native.Nat.{ℕ}
+use mathlib.Core.Path.{sym, ap, _∙_}
 use native.Mathlib.Omega.{arith}
 use lib.ListN.{length}
 use borrow.Author.Needs.{needs}
-use Rattle.lists.specs.Lists.{below}
-use Rattle.lists.proofs.Members.{below-in}
-use Rattle.lists.proofs.Sorting.{sort-in}
 use Rattle.lists.proofs.Fill.{fill-length}
-use Rattle.model.specs.Planning.{dispatch-order}
 use Rattle.plan.specs.declared.Plan.{Plan}
-use Rattle.plan.specs.Memory.{lines}
-use Rattle.plan.specs.Tests.{at}
 use Rattle.plan.proofs.TestsOnLines.{Few}
-use Rattle.plan_order.specs.Groups.{with-key, Part}
-use Rattle.plan_order.proofs.OrdersOfModel.{counts, upward, few-ticks, same-weights, same-dispatch-order, same-queue, same-into, same-unit, same-messages}
+use Rattle.plan_order.specs.Orders.{orders-of}
+use Rattle.plan_order.proofs.OrdersOfModel.{counts, upward, few-ticks, same-weights, same-dispatch-order, same-queue, same-into, same-dispatch, same-queues}
 use Rattle.plan_order.proofs.orders.fixed_orders.Statement.{statement}
 use Rattle.plan_order.proofs.orders.fixed_orders.Tie as tie
 
@@ -110,6 +102,7 @@ in-groups-requires-3 : tie.Need-in-groups-requires-3
 in-groups-requires-3 c κs = let f = few (made-1 (first (second c .before))) in (f .edges, omega (arith, f .slots))
 
 returns : tie.Need-returns
+unfolding orders-of
 returns c =
     let g3 = c .before .before .before .before .before .before in
     let g2 = second (g3 .before) in
@@ -124,22 +117,17 @@ returns c =
     let q = m .before .process-table .ensures in
     let e = m .edge-table .ensures in
     let v = same-weights p h q e (w .before .urgencies .result) (w .before .urgencies .ensures) (w .weights .ensures) in
+    let into = same-into p h q e (z .no-edges .ensures) (g1 .in-groups .ensures) in
+    let dispatch = same-dispatch p h q e (same-dispatch-order p h q e (w .weights .result) v) (g2 .in-groups2 .ensures) in
+    let queue = same-queues p h q e (s .sender-keys .ensures) (same-queue p h q e (w .weights .result) v (r .receiver-weights .ensures)) (g3 .in-groups3 .ensures) in
+    λ j.
     record {
-      into = λ i l. subst (Part (g1 .in-groups .result .first) (g1 .in-groups .result .member) i) (same-into p h q e (z .no-edges .ensures) i) (g1 .in-groups .ensures .parts i l);
-      dispatch-order =
-          λ u l.
-          subst (Part (g2 .in-groups2 .result .first) (g2 .in-groups2 .result .member) u)
-          (ap (λ (xs : List ℕ). with-key (at (m .before .process-table .result .node)) xs u) (same-dispatch-order p h q e (w .weights .result) v) ∙ same-unit p h q e (dispatch-order (lines p)) u) (g2 .in-groups2 .ensures .parts u l);
-      queue =
-          λ n l.
-          subst (Part (g3 .in-groups3 .result .first) (g3 .in-groups3 .result .member) n)
-          (ap (λ (xs : List ℕ). with-key (at (s .sender-keys .result)) xs n) (same-queue p h q e (w .weights .result) v (r .receiver-weights .ensures)) ∙ same-messages p h q e (s .sender-keys .ensures) n l) (g3 .in-groups3 .ensures .parts n l);
-      into-places = g1 .in-groups .ensures .places;
-      dispatch-places = g2 .in-groups2 .ensures .places;
-      queue-places = g3 .in-groups3 .ensures .places;
-      into-numbers = g1 .in-groups .ensures .numbers 128 (omega arith) (λ x i. let l = below-in (p .edges) (sort-in _ (below (p .edges)) i) in omega (arith, few m .edges));
-      dispatch-numbers = g2 .in-groups2 .ensures .numbers 64 (omega arith) (λ x i. let l = below-in (p .processes) (sort-in _ (below (p .processes)) i) in omega (arith, few m .processes));
-      queue-numbers = g3 .in-groups3 .ensures .numbers 128 (omega arith) (λ x i. let l = below-in (p .edges) (sort-in _ (below (p .edges)) i) in omega (arith, few m .edges));
+      intofirst = into j .first;
+      into = into j .member;
+      dispatchfirst = dispatch j .first;
+      dispatch = dispatch j .member;
+      queuefirst = queue j .first;
+      queue = queue j .member;
     }
 
 pub fixed-orders-spec : {M : Type 1} → statement M

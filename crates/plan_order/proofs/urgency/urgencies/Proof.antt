@@ -65,8 +65,9 @@ loop-again c =
 
 returns : tie.Need-returns Inv-loop μ-loop
 returns c =
-    let a = c .before .before .before .args in
-    sofar-end (at (a .ticks .now)) (at (a .from .now)) (at (a .to .now)) (a .edges) (a .n) (c .loop-test .left) (c .before .loop .inv)
+    let s = c .before .before .before in
+    let a = s .args in
+    sofar-end (at (a .ticks .now)) (at (a .from .now)) (at (a .to .now)) (a .edges) (a .n) (s .pre .0) (c .loop-test .left) (c .before .loop .inv)
 
 pub urgencies-spec : {M : Type 1} → statement M
 urgencies-spec =

@@ -68,6 +68,46 @@ taken-fits c =
     let e = c .before .before .before .before in
     sym (e .before .fits2 .ensures) ∙ not-false _ (e .if2 .left)
 
+-- where the scan is left
+done : (e : tie.Left-slot Inv-loop μ-loop Inv-slot μ-slot) → let o = e .before in let a = o .before .args in
+    Done (a .processes) (a .bytes .now) (a .room) (a .end) (a .remote .now) (a .wait .now) (a .a) (a .z) (load (a .first .used) (a .first .short) (a .comes .now) (a .place .now)) (a .lastarrival .now) (o .slot .wait) (o .slot .used) (e .slot-test .short) (o .slot .comes) (o .slot .place) (o .slot .lastarrival) (o .slot .k) (o .slot .j)
+done e =
+    let o = e .before in
+    let a = o .before .args in
+    let h = o .slot .inv .1 in
+    ⊎-elim
+    (λ w. done-as (a .processes) (a .bytes .now) (a .room) (a .end) (a .remote .now) (a .wait .now) (a .a) (a .z) (load (a .first .used) (a .first .short) (a .comes .now) (a .place .now)) (a .lastarrival .now) (o .slot .wait) (o .slot .used) _ _ (o .slot .comes) (o .slot .place) (o .slot .lastarrival) (o .slot .k) (o .slot .j) (w .1)
+    (done-end (a .processes) (a .bytes .now) (a .room) (a .end) (a .remote .now) (a .wait .now) (a .a) (a .z) (load (a .first .used) (a .first .short) (a .comes .now) (a .place .now)) (a .lastarrival .now) (o .slot .wait) (o .slot .used) (o .slot .short) (o .slot .comes) (o .slot .place) (o .slot .lastarrival) (o .slot .k) (o .slot .j) h (w .0 .left)))
+    (λ v. ⊎-elim
+    (λ w. done-as (a .processes) (a .bytes .now) (a .room) (a .end) (a .remote .now) (a .wait .now) (a .a) (a .z) (load (a .first .used) (a .first .short) (a .comes .now) (a .place .now)) (a .lastarrival .now) (o .slot .wait) (o .slot .used) _ _ (o .slot .comes) (o .slot .place) (o .slot .lastarrival) (o .slot .k) (o .slot .j) (w .2)
+    (done-full (a .processes) (a .bytes .now) (a .room) (a .end) (a .remote .now) (a .wait .now) (a .a) (a .z) (load (a .first .used) (a .first .short) (a .comes .now) (a .place .now)) (a .lastarrival .now) (o .slot .wait) (o .slot .used) (o .slot .short) (o .slot .comes) (o .slot .place) (o .slot .lastarrival) (o .slot .k) (o .slot .j) h (w .0 .taken) (omega (arith, w .1 .taken))))
+    (λ w. done-as (a .processes) (a .bytes .now) (a .room) (a .end) (a .remote .now) (a .wait .now) (a .a) (a .z) (load (a .first .used) (a .first .short) (a .comes .now) (a .place .now)) (a .lastarrival .now) (o .slot .wait) (o .slot .used) _ _ (o .slot .comes) (o .slot .place) (o .slot .lastarrival) (o .slot .k) (o .slot .j) (w .7)
+    (done-passed (a .processes) (a .bytes .now) (a .room) (a .end) (a .remote .now) (a .wait .now) (a .a) (a .z) (load (a .first .used) (a .first .short) (a .comes .now) (a .place .now)) (a .lastarrival .now) (o .slot .wait) (o .slot .used) (o .slot .short) (o .slot .comes) (o .slot .place) (o .slot .lastarrival) (o .slot .k) (o .slot .j) h (w .2 .j + 1) true
+    (passing-next (a .processes) (a .bytes .now) (a .room) (a .end) (a .remote .now) (o .slot .wait) (a .z) (o .slot .used) (o .slot .comes) (o .slot .place) (o .slot .j) (o .slot .short) (w .2 .j) (w .2 .short) (h .low) (w .2 .inv .0)
+    (sym (w .4 .ensures) ∙ not-true _ (w .5 .taken)) (w .2 .inv .1))
+    (omega (arith, w .6 .taken)) (omega (arith, w .6 .taken))))
+    v)
+    (e .slot-test .came)
+
+returns : tie.Need-returns Inv-loop μ-loop Inv-slot μ-slot
+returns c =
+    let e = c .before .before in
+    let o = e .before in
+    let a = o .before .args in
+    let q = o .slot .inv .0 in
+    let d = done e in
+    let m = c .move-down2 .ensures in (
+      d .takes,
+      (
+        done-moved (a .processes) (a .bytes .now) (a .room) (a .end) (a .remote .now) (a .wait .now) (a .a) (a .z) (load (a .first .used) (a .first .short) (a .comes .now) (a .place .now)) (a .lastarrival .now) (o .slot .wait) (o .slot .used) (e .slot-test .short) (o .slot .comes) (o .slot .place) (o .slot .lastarrival) (o .slot .k) (o .slot .j) _ _ d
+            (listed-from (a .z) q (m .0)),
+        (
+          omega (arith, m .1, q, o .slot .inv .1 .kept, o .slot .inv .1 .upto),
+          d .arriving,
+        ),
+      ),
+    )
+
 slot-holds : tie.Need-slot-holds Inv-loop μ-loop Inv-slot μ-slot
 slot-holds c =
     let a = c .args in
@@ -180,50 +220,10 @@ slot-again c =
           (d .move-down .ensures .1 ∙ ap (λ (n : ℕ). o .slot .k + (l .loop .j - n)) q)),
     )
 
--- where the scan is left
-done : (e : tie.Left-slot Inv-loop μ-loop Inv-slot μ-slot) → let o = e .before in let a = o .before .args in
-    Done (a .processes) (a .bytes .now) (a .room) (a .end) (a .remote .now) (a .wait .now) (a .a) (a .z) (load (a .first .used) (a .first .short) (a .comes .now) (a .place .now)) (a .lastarrival .now) (o .slot .wait) (o .slot .used) (e .slot-test .short) (o .slot .comes) (o .slot .place) (o .slot .lastarrival) (o .slot .k) (o .slot .j)
-done e =
-    let o = e .before in
-    let a = o .before .args in
-    let h = o .slot .inv .1 in
-    ⊎-elim
-    (λ w. done-as (a .processes) (a .bytes .now) (a .room) (a .end) (a .remote .now) (a .wait .now) (a .a) (a .z) (load (a .first .used) (a .first .short) (a .comes .now) (a .place .now)) (a .lastarrival .now) (o .slot .wait) (o .slot .used) _ _ (o .slot .comes) (o .slot .place) (o .slot .lastarrival) (o .slot .k) (o .slot .j) (w .1)
-    (done-end (a .processes) (a .bytes .now) (a .room) (a .end) (a .remote .now) (a .wait .now) (a .a) (a .z) (load (a .first .used) (a .first .short) (a .comes .now) (a .place .now)) (a .lastarrival .now) (o .slot .wait) (o .slot .used) (o .slot .short) (o .slot .comes) (o .slot .place) (o .slot .lastarrival) (o .slot .k) (o .slot .j) h (w .0 .left)))
-    (λ v. ⊎-elim
-    (λ w. done-as (a .processes) (a .bytes .now) (a .room) (a .end) (a .remote .now) (a .wait .now) (a .a) (a .z) (load (a .first .used) (a .first .short) (a .comes .now) (a .place .now)) (a .lastarrival .now) (o .slot .wait) (o .slot .used) _ _ (o .slot .comes) (o .slot .place) (o .slot .lastarrival) (o .slot .k) (o .slot .j) (w .2)
-    (done-full (a .processes) (a .bytes .now) (a .room) (a .end) (a .remote .now) (a .wait .now) (a .a) (a .z) (load (a .first .used) (a .first .short) (a .comes .now) (a .place .now)) (a .lastarrival .now) (o .slot .wait) (o .slot .used) (o .slot .short) (o .slot .comes) (o .slot .place) (o .slot .lastarrival) (o .slot .k) (o .slot .j) h (w .0 .taken) (w .1 .taken)))
-    (λ w. done-as (a .processes) (a .bytes .now) (a .room) (a .end) (a .remote .now) (a .wait .now) (a .a) (a .z) (load (a .first .used) (a .first .short) (a .comes .now) (a .place .now)) (a .lastarrival .now) (o .slot .wait) (o .slot .used) _ _ (o .slot .comes) (o .slot .place) (o .slot .lastarrival) (o .slot .k) (o .slot .j) (w .7)
-    (done-passed (a .processes) (a .bytes .now) (a .room) (a .end) (a .remote .now) (a .wait .now) (a .a) (a .z) (load (a .first .used) (a .first .short) (a .comes .now) (a .place .now)) (a .lastarrival .now) (o .slot .wait) (o .slot .used) (o .slot .short) (o .slot .comes) (o .slot .place) (o .slot .lastarrival) (o .slot .k) (o .slot .j) h (w .2 .j + 1) true
-    (passing-next (a .processes) (a .bytes .now) (a .room) (a .end) (a .remote .now) (o .slot .wait) (a .z) (o .slot .used) (o .slot .comes) (o .slot .place) (o .slot .j) (o .slot .short) (w .2 .j) (w .2 .short) (h .low) (w .2 .inv .0)
-    (sym (w .4 .ensures) ∙ not-true _ (w .5 .taken)) (w .2 .inv .1))
-    (omega (arith, w .6 .taken)) (omega (arith, w .6 .taken))))
-    v)
-    (e .slot-test .came)
-
 move-down-requires-2 : tie.Need-move-down-requires-2 Inv-loop μ-loop Inv-slot μ-slot
 move-down-requires-2 c κs =
     let o = c .before .before in
     (omega (arith, o .slot .inv .0, o .slot .inv .1 .kept), omega (arith, o .slot .inv .0, o .slot .inv .1 .upto), o .before .pre .2, o .slot .inv .1 .listed .long ∙ o .before .pre .4)
-
-returns : tie.Need-returns Inv-loop μ-loop Inv-slot μ-slot
-returns c =
-    let e = c .before .before in
-    let o = e .before in
-    let a = o .before .args in
-    let q = o .slot .inv .0 in
-    let d = done e in
-    let m = c .move-down2 .ensures in (
-      d .takes,
-      (
-        done-moved (a .processes) (a .bytes .now) (a .room) (a .end) (a .remote .now) (a .wait .now) (a .a) (a .z) (load (a .first .used) (a .first .short) (a .comes .now) (a .place .now)) (a .lastarrival .now) (o .slot .wait) (o .slot .used) (e .slot-test .short) (o .slot .comes) (o .slot .place) (o .slot .lastarrival) (o .slot .k) (o .slot .j) _ _ d
-            (listed-from (a .z) q (m .0)),
-        (
-          omega (arith, m .1, q, o .slot .inv .1 .kept, o .slot .inv .1 .upto),
-          d .arriving,
-        ),
-      ),
-    )
 
 pub take-messages-spec : {M : Type 1} → statement M
 take-messages-spec =

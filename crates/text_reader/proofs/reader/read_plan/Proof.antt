@@ -1,9 +1,13 @@
--- `read_plan` gives the answer for the text: its parts are what the grammar reads.
+-- `read_plan` gives the answer for the text: its parts are what the grammar reads, and the plan that started empty is
+-- filled with them.
 -- Assumes nothing.
 use borrow.Author.Needs.{needs}
-use mathlib.Core.Path.{sym}
+use mathlib.Core.Path.{_≡_, sym, ap, _∙_}
+use Rattle.plan.specs.declared.Plan.{Plan}
+use Rattle.plan.specs.Memory.{empty-plan}
 use Rattle.text_scanner.specs.Lines.{head}
 use Rattle.text_scanner.proofs.AnswerCases.{told}
+use Rattle.text_reader.specs.Run.{with-head}
 use Rattle.text_reader.proofs.Answers.{long-text, no-form-text, no-head, more-follows, whole-text}
 use Rattle.text_reader.proofs.reader.read_plan.Statement.{statement}
 use Rattle.text_reader.proofs.reader.read_plan.Tie as tie
@@ -31,28 +35,43 @@ returns-2 c =
     let e = told head (c .before .enum-told .given .1) (c .before .before .before .head .ensures) in
     (no-form-text (c .no-form2 .ensures .0) (no-head _ (sym (e .same))), c .no-form2 .ensures .1)
 
-all-slots-requires : tie.Need-all-slots-requires
-all-slots-requires c κs = told head (c .before .byte .given .1) (c .before .before .before .head .ensures) .within
+empty-requires : tie.Need-empty-requires
+empty-requires c κs = search needs
 
-all-processes-requires : tie.Need-all-processes-requires
-all-processes-requires c κs = search needs
+with-head-requires : tie.Need-with-head-requires
+with-head-requires c κs = search needs
 
-all-conditions-requires : tie.Need-all-conditions-requires
-all-conditions-requires c κs = search needs
+read-slots-requires : tie.Need-read-slots-requires
+read-slots-requires c κs =
+    let h = c .before .before .before in
+    told head (h .byte .given .1) (h .before .before .head .ensures) .within
 
-all-edges-requires : tie.Need-all-edges-requires
-all-edges-requires c κs = search needs
+read-processes-requires : tie.Need-read-processes-requires
+read-processes-requires c κs = search needs
+
+read-conditions-requires : tie.Need-read-conditions-requires
+read-conditions-requires c κs = search needs
+
+read-edges-requires : tie.Need-read-edges-requires
+read-edges-requires c κs = search needs
 
 no-form-requires-3 : tie.Need-no-form-requires-3
 no-form-requires-3 c κs = search needs
 
+-- the plan line's plan
+begins : (c : tie.After-with-head) → c .with-head .result ≡ with-head empty-plan (c .before .before .before .byte .given .0 .0) (c .before .before .before .byte .given .0 .1 .0)
+begins c =
+    let g = c .before .before .before .byte .given .0 in
+    c .with-head .ensures ∙ ap (λ (p : Plan). with-head p (g .0) (g .1 .0)) (c .before .empty .ensures)
+
 returns-3 : tie.Need-returns-3
 returns-3 c =
-    let a = c .before .before in
-    let h = a .before .before .before .before .before in
+    let a = c .before .before .before in
+    let w = a .before .before .before .before in
+    let h = w .before .before .before in
     let first = sym (told head (h .byte .given .1) (h .before .before .head .ensures) .same) in
-    let f = more-follows (h .byte .given .0 .1 .0) first (a .before .before .before .all-slots .ensures) (a .before .before .all-processes .ensures)
-    (a .before .all-conditions .ensures) (a .all-edges .ensures) (c .before .if2 .taken) in
+    let f = more-follows (h .byte .given .0 .1 .0) first (begins w) (a .before .before .before .read-slots .ensures) (a .before .before .read-processes .ensures)
+    (a .before .read-conditions .ensures) (a .read-edges .ensures) (c .before .if2 .taken) in
     (no-form-text (c .no-form3 .ensures .0) f, c .no-form3 .ensures .1)
 
 refused-or-read-requires : tie.Need-refused-or-read-requires
@@ -60,12 +79,12 @@ refused-or-read-requires c κs = search needs
 
 returns-4 : tie.Need-returns-4
 returns-4 c =
-    let o = c .before .before .before .before .before in
-    let a = o .before in
-    let h = a .before .before .before .before .before in
+    let a = c .before .before .before in
+    let w = a .before .before .before .before in
+    let h = w .before .before .before in
     let first = sym (told head (h .byte .given .1) (h .before .before .head .ensures) .same) in
-    let f = whole-text (h .byte .given .0 .1 .0) first (a .before .before .before .all-slots .ensures) (a .before .before .all-processes .ensures)
-    (a .before .all-conditions .ensures) (a .all-edges .ensures) (o .if2 .left) (h .before .before .before .if1 .left) (c .refused-or-read .ensures .0) in
+    let f = whole-text (h .byte .given .0 .1 .0) first (begins w) (a .before .before .before .read-slots .ensures) (a .before .before .read-processes .ensures)
+    (a .before .read-conditions .ensures) (a .read-edges .ensures) (c .before .if2 .left) (h .before .before .before .if1 .left) (c .refused-or-read .ensures .0) in
     (f, c .refused-or-read .ensures .1)
 
 pub read-plan-spec : {M : Type 1} → statement M
@@ -79,10 +98,12 @@ read-plan-spec =
     enum-told
     no-form-requires-2
     returns-2
-    all-slots-requires
-    all-processes-requires
-    all-conditions-requires
-    all-edges-requires
+    empty-requires
+    with-head-requires
+    read-slots-requires
+    read-processes-requires
+    read-conditions-requires
+    read-edges-requires
     no-form-requires-3
     returns-3
     refused-or-read-requires

@@ -1,6 +1,7 @@
 -- `text_writer::put_head` meets its contract: the labelled number is put, then the end of the line by the `pick`.
 -- Assumes nothing.
 use Rattle.model.specs.Plan.{by-urgency, by-number}
+use Rattle.plan.specs.Memory.{lines}
 use Rattle.text_lines.proofs.Puts.{put-then, counts-first, counts-rest}
 use Rattle.text_lines.specs.Label.{labelled}
 use Rattle.text_writer.proofs.LineParts.{pick-end, plan-parts}
@@ -12,7 +13,8 @@ slice-aggregate-put-labelled : tie.Need-slice-aggregate-put-labelled
 slice-aggregate-put-labelled c = search needs
 
 put-labelled-requires : tie.Need-put-labelled-requires
-put-labelled-requires c κs = counts-first (labelled "(plan (byte " (c .before .before .before .args .byte)) _ (rw plan-parts at (c .before .before .before .pre))
+unfolding lines
+put-labelled-requires c κs = counts-first (labelled "(plan (byte " (c .before .before .before .args .p .byte)) _ (rw plan-parts at (c .before .before .before .pre))
 
 enum-told : tie.Need-enum-told
 enum-told c = search needs
@@ -21,6 +23,7 @@ slice-aggregate-put-word : tie.Need-slice-aggregate-put-word
 slice-aggregate-put-word c = search needs
 
 put-word-requires : tie.Need-put-word-requires
+unfolding lines
 put-word-requires c κs =
     let at-enum-told = c .before .before in
     let at-labelled = at-enum-told .before .before .before .before in
@@ -34,6 +37,7 @@ slice-aggregate-put-word-2 : tie.Need-slice-aggregate-put-word-2
 slice-aggregate-put-word-2 c = search needs
 
 put-word-requires-2 : tie.Need-put-word-requires-2
+unfolding lines
 put-word-requires-2 c κs =
     let at-enum-told2 = c .before .before in
     let at-labelled = at-enum-told2 .before .before .before .before in
@@ -44,6 +48,7 @@ same-length : tie.Need-same-length
 same-length c = search needs
 
 returns : tie.Need-returns
+unfolding lines
 returns c =
     let at-word = c .before .before in
     let at-enum-told = at-word .before .before .before in
@@ -54,6 +59,7 @@ same-length-2 : tie.Need-same-length-2
 same-length-2 c = search needs
 
 returns-2 : tie.Need-returns-2
+unfolding lines
 returns-2 c =
     let at-word2 = c .before .before in
     let at-enum-told2 = at-word2 .before .before .before in

@@ -35,7 +35,7 @@ put-word-requires c κs =
     let at-labelled2 = at-enum-told .before .before .before .before in
     let at-labelled = at-labelled2 .before .before .before .before .before in
     let a = at-labelled .before .before .before .before in
-    counts-rest (at-labelled2 .put-labelled2 .ensures) (waits-end waits-all) (counts-rest (at-labelled .put-labelled .ensures) _ (rw (at-enum-told .enum-told .given .1, process-parts) at (a .pre)))
+    record { fits = counts-rest (at-labelled2 .put-labelled2 .ensures) (waits-end waits-all) (counts-rest (at-labelled .put-labelled .ensures) _ (rw (at-enum-told .enum-told .given .1, process-parts) at (a .pre))) .fits }
 
 enum-told-2 : tie.Need-enum-told-2
 enum-told-2 c = search needs
@@ -49,7 +49,7 @@ put-word-requires-2 c κs =
     let at-labelled2 = at-enum-told2 .before .before .before .before in
     let at-labelled = at-labelled2 .before .before .before .before .before in
     let a = at-labelled .before .before .before .before in
-    counts-rest (at-labelled2 .put-labelled2 .ensures) (waits-end waits-any) (counts-rest (at-labelled .put-labelled .ensures) _ (rw (at-enum-told2 .enum-told2 .given .1, process-parts) at (a .pre)))
+    record { fits = counts-rest (at-labelled2 .put-labelled2 .ensures) (waits-end waits-any) (counts-rest (at-labelled .put-labelled .ensures) _ (rw (at-enum-told2 .enum-told2 .given .1, process-parts) at (a .pre))) .fits }
 
 same-length : tie.Need-same-length
 same-length c = search needs

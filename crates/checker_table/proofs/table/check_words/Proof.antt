@@ -1,0 +1,115 @@
+-- `checker_table::check_words` meets its contract: 12, then 13, then what is found in all combinations.
+-- Assumes nothing.
+use mathlib.Core.Path.{ap, _∙_}
+use Prim.Native.Nat.{ℕ}
+use native.Mathlib.Omega.{arith}
+use borrow.Author.Needs.{needs}
+use Rattle.plan.specs.Memory.{lines}
+use Rattle.checker_table.specs.declared.verdict.Found.{Found}
+use Rattle.plan_index.specs.Indexed.{Indexed}
+use Rattle.plan_index.proofs.IndexOfLines.{indexed-lines}
+use Rattle.checker_rows.specs.MetRows.{Small}
+use Rattle.checker_table.specs.Combinations.{found-all, Tabled}
+use Rattle.checker_table.specs.Verdict.{verdict-by}
+use Rattle.checker_rules.proofs.FormOfModel.{formed-told}
+use Rattle.checker_table.proofs.FirstAnswers.{answer-12, answer-13}
+use Rattle.checker_table.proofs.CheckerOfModel.{all-verdict, answer-later}
+use Rattle.checker_table.proofs.table.check_words.Statement.{statement}
+use Rattle.checker_table.proofs.table.check_words.Tie as tie
+
+returns : tie.Need-returns
+returns c = let a = c .before .before .args in answer-12 (lines (a .p)) (a .table .now) (a .delay) (c .if1 .taken)
+
+of-plan-requires : tie.Need-of-plan-requires
+of-plan-requires c κs = search needs
+
+-- what the plan index says of the plan
+indexed : (c : tie.After-of-plan) → Indexed (lines (c .before .before .before .args .p)) (c .of-plan .result)
+indexed c = let s = c .before .before .before in indexed-lines (s .args .p) (s .pre) (c .of-plan .ensures)
+
+combinations-of-requires : tie.Need-combinations-of-requires
+combinations-of-requires c κs = search (needs, indexed c)
+
+some-ill-formed-requires : tie.Need-some-ill-formed-requires
+some-ill-formed-requires c κs = search (needs, indexed (c .before .before .before))
+
+returns-2 : tie.Need-returns-2
+returns-2 c =
+    let told = c .before in
+    let many = told .before .before .before in
+    let planindex = many .before in
+    let e = planindex .before in
+    let known = e .before in
+    let a = known .before .args in
+    let small : Small (a .table .now) = λ i l. omega (arith, known .shared-slice-known .given i) in
+    answer-13 (lines (a .p)) (a .table .now) (a .delay) (e .if1 .left)
+    (formed-told (lines (a .p)) (planindex .of-plan .result) (indexed planindex) (many .combinations-of .result) (many .combinations-of .ensures .0) (a .table .now) small
+    (told .some-ill-formed .ensures) (c .if2 .taken))
+
+try-all-requires : tie.Need-try-all-requires
+try-all-requires c κs =
+    let told = c .before in
+    let many = told .before .before .before in
+    let planindex = many .before in
+    let e = planindex .before in
+    let known = e .before in
+    let s = known .before in
+    let a = s .args in
+    let small : Small (a .table .now) = λ i l. omega (arith, known .shared-slice-known .given i) in (
+      record {
+        plan = lines (a .p);
+        passes = s .pre;
+        indexed = indexed planindex;
+        fives = e .if1 .left;
+        formed =
+            formed-told (lines (a .p)) (planindex .of-plan .result) (indexed planindex) (many .combinations-of .result) (many .combinations-of .ensures .0) (a .table .now) small
+            (told .some-ill-formed .ensures) (c .if2 .left);
+        small = small;
+      },
+      many .combinations-of .ensures .0,
+    )
+
+verdict-requires : tie.Need-verdict-requires
+verdict-requires c κs = search needs
+
+returns-3 : tie.Need-returns-3
+returns-3 c =
+    let tried = c .before in
+    let rest = tried .before in
+    let told = rest .before in
+    let many = told .before .before .before in
+    let planindex = many .before in
+    let e = planindex .before in
+    let known = e .before in
+    let s = known .before in
+    let a = s .args in
+    let small : Small (a .table .now) = λ i l. omega (arith, known .shared-slice-known .given i) in
+    let t : Tabled (planindex .of-plan .result) (a .table .now) =
+    record {
+      plan = lines (a .p);
+      passes = s .pre;
+      indexed = indexed planindex;
+      fives = e .if1 .left;
+      formed =
+          formed-told (lines (a .p)) (planindex .of-plan .result) (indexed planindex) (many .combinations-of .result) (many .combinations-of .ensures .0) (a .table .now) small
+          (told .some-ill-formed .ensures) (rest .if2 .left);
+      small = small;
+    } in
+    c .verdict .ensures
+    ∙ ap (λ (f : Found). verdict-by f (a .delay))
+    (tried .try-all .ensures ∙ ap (λ (n : ℕ). found-all (planindex .of-plan .result) (a .table .now) n) (many .combinations-of .ensures .0))
+    ∙ all-verdict (planindex .of-plan .result) (a .table .now) t (a .delay)
+    ∙ answer-later (lines (a .p)) (a .table .now) (a .delay) (e .if1 .left) (t .formed)
+
+pub check-words-spec : {M : Type 1} → statement M
+check-words-spec =
+    tie.close
+    (tie.spec
+    returns
+    of-plan-requires
+    combinations-of-requires
+    some-ill-formed-requires
+    returns-2
+    try-all-requires
+    verdict-requires
+    returns-3)

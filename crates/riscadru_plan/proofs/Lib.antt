@@ -1,0 +1,2 @@
+-- Laws of the planning program: Within (how many bytes were read).
+pub mod Within

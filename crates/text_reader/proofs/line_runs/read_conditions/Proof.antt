@@ -1,0 +1,72 @@
+-- `read_conditions` reads a run as the grammar does: the lines up to `next` are counted, and stored where there is
+-- room.
+-- Assumes nothing.
+use borrow.Author.Needs.{needs}
+use Prim.Native.Nat.{_-_}
+use mathlib.Core.Logic.{⊎-elim}
+use native.Mathlib.Omega.{arith}
+use lib.ListN.{length}
+use Rattle.text_scanner.specs.Place.{number}
+use Rattle.text_scanner.proofs.AnswerCases.{told}
+use Rattle.text_reader.proofs.RunsSoFar.{Sofar, put, left-out, conditions-law, begun, over, advanced, more}
+use Rattle.text_reader.proofs.line_runs.read_conditions.Statement.{statement}
+use Rattle.text_reader.proofs.line_runs.read_conditions.Tie as tie
+
+abbrev Inv-loop : tie.InvT-loop
+Inv-loop text at before count₀ next₀ plan count next = Sofar conditions-law text at before count plan next
+
+abbrev μ-loop : tie.MeasureT-loop
+μ-loop text at before count₀ next₀ plan count next = length text - next
+
+loop-holds : tie.Need-loop-holds Inv-loop μ-loop
+loop-holds c = begun conditions-law (c .before .pre)
+
+condition-requires : tie.Need-condition-requires Inv-loop μ-loop
+condition-requires c κs = c .loop .inv .within
+
+enum-known-x : tie.Need-enum-known-x Inv-loop μ-loop
+enum-known-x c = search needs
+
+enum-told : tie.Need-enum-told Inv-loop μ-loop
+enum-told c = search needs
+
+returns : tie.Need-returns Inv-loop μ-loop
+returns c = over conditions-law (c .before .before .before .loop .inv) (search needs) (told number (c .enum-told .given .1) (c .before .before .condition .ensures))
+
+mul-plan : tie.Need-mul-plan Inv-loop μ-loop
+mul-plan c = search needs
+
+element-write-plan : tie.Need-element-write-plan Inv-loop μ-loop
+element-write-plan c = search needs
+
+add-count : tie.Need-add-count Inv-loop μ-loop
+add-count c = omega (arith, c .before .before .before .before .before .loop .inv .few, c .before .before .before .before .before .loop .inv .within)
+
+loop-less : tie.Need-loop-less Inv-loop μ-loop
+loop-less c =
+    let g = c .before .before .x .given in
+    let e = told number (g .1) (c .before .before .before .before .condition .ensures) in
+    omega (arith, advanced conditions-law (c .before .before .before .before .before .loop .inv) (g .0 .0) e, e .within)
+
+loop-again : tie.Need-loop-again Inv-loop μ-loop
+loop-again c =
+    let g = c .before .before .x .given in
+    more conditions-law (c .before .before .before .before .before .loop .inv) (g .0 .0) (told number (g .1) (c .before .before .before .before .condition .ensures))
+    (⊎-elim (λ w. put (omega (arith, w .0 .taken)) (w .1)) (λ w. left-out (omega (arith, w .0 .left)) (w .1)) (c .if1 .came))
+
+pub read-conditions-spec : {M : Type 1} → statement M
+read-conditions-spec =
+    tie.close
+    (tie.spec
+    Inv-loop
+    μ-loop
+    loop-holds
+    condition-requires
+    enum-known-x
+    enum-told
+    returns
+    mul-plan
+    element-write-plan
+    add-count
+    loop-less
+    loop-again)
