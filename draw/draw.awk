@@ -184,7 +184,7 @@ file == 2 && ($1 == "start" || $1 == "send" || $1 == "tell") {
 
 END {
     if (refused != "" || delay == "") {
-        print "draw: there is no table to draw" (refused == "" ? "" : ": the plan is refused with " refused) > "/dev/stderr"
+        print "riscadru: there is no table to draw" (refused == "" ? "" : ": the plan is refused with " refused) > "/dev/stderr"
         exit 1
     }
     combinations = 2 ^ conditions
@@ -192,7 +192,7 @@ END {
     count = combinations
     if (only != "") {
         if (only !~ /^[0-9]+$/ || only + 0 >= combinations) {
-            print "draw: the plan has combinations 0 to " combinations - 1 ", not " only > "/dev/stderr"
+            print "riscadru: the plan has combinations 0 to " combinations - 1 ", not " only > "/dev/stderr"
             exit 1
         }
         first = only + 0

@@ -95,7 +95,7 @@ pub fn plan_table(text: &[u8], table: &mut [u8], frames: &mut [u8], totals: &mut
     }
 }
 
-/// Writes what the planning program prints for a plan text, to the front of the lent bytes.
+/// Plans a plan text and writes the listing to the front of the lent bytes.
 pub fn plan_listing(text: &[u8], out: &mut [u8]) -> u64 {
     // SAFETY: each pointer and length are those of one slice, and the two slices do not overlap.
     unsafe { linked::riscadru_plan_listing(text.as_ptr(), text.len(), out.as_mut_ptr(), out.len()) }

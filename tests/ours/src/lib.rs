@@ -9,4 +9,8 @@ pub mod archive;
 #[cfg(have_archive)]
 pub mod comparing;
 #[cfg(have_archive)]
+pub mod firmware;
+#[cfg(have_archive)]
 pub mod linking;
+#[cfg(have_archive)]
+pub mod tree;

@@ -13,7 +13,7 @@ use generate::any_tables::{changed, far_ticks, random_entries};
 use generate::tables::{sound_variants, to_the_last_tick, Table};
 use generate::{plan, Kind, Random, KINDS};
 use ours::comparing::{bytes, count, Shares};
-use ours::linking::{link, root};
+use ours::firmware::{build, letters};
 use reference::lookup::{first_entry, Question};
 use reference::table::row_number;
 use reference::who_runs::combinations;
@@ -41,13 +41,8 @@ fn temporary(name: &str) -> PathBuf {
 fn firmware() -> &'static Path {
     static BUILT: OnceLock<PathBuf> = OnceLock::new();
     BUILT.get_or_init(|| {
-        let folder = std::fs::read_dir(root().join("firmware")).expect("the folder firmware");
-        let sources: Vec<PathBuf> = folder
-            .map(|file| file.expect("a file").path())
-            .filter(|path| path.extension().is_some_and(|extension| extension == "c"))
-            .collect();
         let program = temporary("unit");
-        link(&sources, &program);
+        build(&program);
         program
     })
 }
@@ -79,23 +74,6 @@ impl Files {
             .arg(&self.table)
             .args(more);
         call
-    }
-}
-
-/// The letters of a combination, condition 0 first.
-fn letters(lines: &Lines, combination: u32) -> String {
-    let conditions = 0..lines.conditions.len();
-    let letter = |condition| {
-        if combination >> condition & 1 == 1 {
-            't'
-        } else {
-            'f'
-        }
-    };
-    if conditions.is_empty() {
-        "-".to_string()
-    } else {
-        conditions.map(letter).collect()
     }
 }
 
@@ -398,11 +376,8 @@ fn wrong_calls() {
 }
 
 #[test]
+#[cfg_attr(not(have_valgrind), ignore = "valgrind is not on the PATH")]
 fn a_run_of_s_under_valgrind() {
-    if Command::new("valgrind").arg("--version").output().is_err() {
-        println!("valgrind is not on the PATH: skipped");
-        return;
-    }
     let files = Files::new("under-valgrind");
     files.write(S.as_bytes(), &bytes(&planned(&s()).words));
     for letters in ["t", "f"] {

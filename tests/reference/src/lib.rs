@@ -5,6 +5,7 @@
 
 pub mod bus;
 pub mod check;
+pub mod failing;
 pub mod lines;
 pub mod listing;
 pub mod lookup;
@@ -16,8 +17,9 @@ pub mod text;
 pub mod who_runs;
 
 pub use check::check;
+pub use failing::{failing, Failing};
 pub use lines::{Condition, Edge, Lines, Pick, Process, Slot, Waits, When};
-pub use listing::{listing, program, refused};
+pub use listing::{list_plan, listing, program, refused};
 pub use lookup::{c_lookup, lookup, row_query, Answer};
 pub use planner::{plan, Planned};
 pub use refuse::refuse_plan;

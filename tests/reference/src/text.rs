@@ -101,6 +101,11 @@ pub fn read_form(text: &[u8]) -> Option<Lines> {
     if text.len() > LONGEST_TEXT {
         return None;
     }
+    read_any_length(text)
+}
+
+/// The lines of a text of the form above, however long it is.
+pub fn read_any_length(text: &[u8]) -> Option<Lines> {
     let mut rest = Rest(text);
     let lines = read_lines(&mut rest)?;
     if rest.0.is_empty() {

@@ -1,8 +1,10 @@
 //! What the tests share: document 01's example, short ways to write plans, the plans of its cases,
-//! and random inputs.
+//! random inputs, and pictures that are compared with their tables.
 
 pub mod cases;
+pub mod drawing;
 
+use generate::frames::{fewest_entries, with_frames};
 use generate::{plan, Kind, Random};
 use reference::lookup::Question;
 use reference::{Condition, Edge, Lines, Pick, Planned, Process, Slot, Waits, When};
@@ -133,6 +135,26 @@ pub fn listed(lines: &Lines) -> String {
     let p = planned(lines);
     let listing = reference::listing(lines, p.delay, p.passed, &p.words, &p.frames);
     String::from_utf8(listing).unwrap()
+}
+
+/// Plans with as many entries and frames as the planning program has room for, and with one more of
+/// either or both; each with its refusal by the program, 10 before 11.
+pub fn about_the_room(random: &mut Random) -> Vec<(Lines, Option<u8>)> {
+    let fewest = fewest_entries(2_000);
+    let counts = [
+        (1_999, 3_000, None),
+        (2_000, fewest, None),
+        (2_000, 3_000, None),
+        (2_000, 3_001, Some(10)),
+        (2_001, fewest + 1, Some(11)),
+        (2_001, 3_000, Some(11)),
+        (2_001, 3_001, Some(10)),
+        (2_100, 3_000, Some(11)),
+        (2_100, 3_020, Some(10)),
+    ];
+    counts
+        .map(|(frames, entries, refusal)| (with_frames(frames, entries, random), refusal))
+        .to_vec()
 }
 
 /// The lines of the listing that begin so.

@@ -1,0 +1,403 @@
+//! The plans in `examples/`: each is planned, checked, drawn and run, and the page that explains
+//! them names what comes out. Without the archive and the planning program there are no tests here;
+//! the gate builds them first.
+#![cfg(all(have_archive, have_program))]
+
+use std::fs::File;
+use std::path::{Path, PathBuf};
+use std::process::Command;
+use std::sync::OnceLock;
+
+use ours::archive::{check_table, plan_listing, plan_table, refused, ACCEPTED};
+use ours::comparing::bytes;
+use ours::firmware::{build, letters};
+use ours::linking::root;
+use reference::table::{frames, ENTRY_WORDS, FRAME_WORDS};
+use reference::who_runs::{combinations, value, Combination};
+use reference::{print, read, Lines, Pick, Planned, Waits, When};
+use suite::drawing::compare;
+use suite::{bus, planned, With, S};
+
+/// A plan of the folder `examples` and what the reference plans for it.
+struct Example {
+    name: String,
+    text: Vec<u8>,
+    lines: Lines,
+    planned: Planned,
+}
+
+/// The file of an example.
+fn file(name: &str) -> PathBuf {
+    root().join(format!("examples/{name}.plan"))
+}
+
+/// A place for files of this test, by the name of an example.
+fn temporary(name: &str) -> PathBuf {
+    Path::new(env!("CARGO_TARGET_TMPDIR")).join(format!("example-{name}"))
+}
+
+fn example(name: &str) -> Example {
+    let text = std::fs::read(file(name)).expect("a plan text");
+    let lines = read(&text).expect("a plan");
+    Example {
+        name: name.to_string(),
+        text,
+        planned: planned(&lines),
+        lines,
+    }
+}
+
+/// All plans of the folder.
+fn examples() -> Vec<Example> {
+    let folder = std::fs::read_dir(root().join("examples")).expect("the folder examples");
+    let paths = folder.map(|file| file.expect("a file").path());
+    let plans = paths.filter(|path| path.extension().is_some_and(|e| e == "plan"));
+    let names = plans.map(|path| path.file_stem().unwrap().to_str().unwrap().to_string());
+    names.map(|name| example(&name)).collect()
+}
+
+/// The page that explains the examples.
+fn page() -> String {
+    std::fs::read_to_string(root().join("examples/README.md")).expect("the page")
+}
+
+/// The cells of the page's table that has these headings, row by row.
+fn table(headings: &str) -> Vec<Vec<String>> {
+    let page = page();
+    let from = page.lines().skip_while(|line| *line != headings);
+    let rows: Vec<Vec<String>> = from
+        .skip(2)
+        .map_while(|line| line.strip_prefix('|')?.strip_suffix('|'))
+        .map(|row| row.split('|').map(|cell| cell.trim().to_string()).collect())
+        .collect();
+    assert!(!rows.is_empty(), "{headings}");
+    rows
+}
+
+/// The number in a cell.
+fn number(cell: &str) -> u64 {
+    cell.parse().expect("a number")
+}
+
+/// The first cells of each row.
+fn first_cells(rows: &[Vec<String>], count: usize) -> Vec<Vec<String>> {
+    rows.iter().map(|row| row[..count].to_vec()).collect()
+}
+
+/// A row of cells with these numbers.
+fn numbers(of: &[u64]) -> Vec<String> {
+    of.iter().map(u64::to_string).collect()
+}
+
+impl Example {
+    /// The combinations that have the worst delay.
+    fn worst(&self) -> Vec<Combination> {
+        let is_worst = |c: &Combination| self.planned.delays[*c as usize] == self.planned.delay;
+        combinations(&self.lines).filter(is_worst).collect()
+    }
+
+    /// The values that all combinations with the worst delay have, and no other combination.
+    fn worst_where(&self) -> String {
+        let worst = self.worst();
+        let true_in = |condition| worst.iter().filter(|&&c| value(c, condition)).count();
+        let (mut values, mut free) = (Vec::new(), 0);
+        for condition in 0..self.lines.conditions.len() {
+            match true_in(condition) {
+                0 => values.push(format!("(false {condition})")),
+                all if all == worst.len() => values.push(format!("(true {condition})")),
+                _ => free += 1,
+            }
+        }
+        assert_eq!(worst.len(), 1 << free, "{}: {worst:?}", self.name);
+        format!("`{}`", values.join(" "))
+    }
+
+    /// The row of the page's first table that this example should have.
+    fn figures(&self) -> Vec<String> {
+        let Example {
+            name,
+            lines,
+            planned,
+            ..
+        } = self;
+        let link = format!("[{name}.plan]({name}.plan)");
+        let sizes = [
+            lines.slots.len(),
+            lines.processes.len(),
+            lines.conditions.len(),
+            lines.edges.len(),
+        ];
+        let mut row = vec![link];
+        row.extend(sizes.map(|size| size.to_string()));
+        row.extend([planned.delay.to_string(), self.worst_where()]);
+        row.extend(numbers(&[
+            planned.passed,
+            (planned.words.len() / ENTRY_WORDS) as u64,
+            (planned.frames.len() / FRAME_WORDS) as u64,
+        ]));
+        row
+    }
+
+    /// What the firmware example prints for a command on this plan and a table.
+    fn unit(&self, command: &str, table: &Path, more: &[String]) -> String {
+        static BUILT: OnceLock<PathBuf> = OnceLock::new();
+        let firmware = BUILT.get_or_init(|| {
+            let program = temporary("unit");
+            build(&program);
+            program
+        });
+        let output = Command::new(firmware)
+            .arg(command)
+            .arg(file(&self.name))
+            .arg(table)
+            .args(more)
+            .output()
+            .expect("the firmware");
+        assert!(
+            output.status.success(),
+            "{} {more:?}: {output:?}",
+            self.name
+        );
+        String::from_utf8(output.stdout).expect("text")
+    }
+
+    /// What it prints for a run of a combination with full ticks.
+    fn run(&self, table: &Path, combination: Combination) -> String {
+        self.unit("run", table, &[letters(&self.lines, combination)])
+    }
+}
+
+/// The last end of a process that a run prints.
+fn last_end(run: &str) -> u64 {
+    let ends = run.lines().filter(|line| line.ends_with(" ends"));
+    let ticks = ends.map(|line| number(line.split(':').next().unwrap()));
+    ticks.max().expect("an end")
+}
+
+#[test]
+fn the_page_names_every_plan_and_its_figures() {
+    let mut wanted: Vec<Vec<String>> = examples().iter().map(Example::figures).collect();
+    let headings = "| plan | units | processes | conditions | edges | worst delay | where \
+                    | passed over | entries | frames |";
+    let mut rows = table(headings);
+    wanted.sort();
+    rows.sort();
+    assert_eq!(rows, wanted);
+    assert_eq!(example("s").text, S.as_bytes());
+}
+
+#[test]
+fn each_is_planned() {
+    for example in examples() {
+        let input = File::open(file(&example.name)).expect("a plan text");
+        let output = Command::new(root().join("target/bin/riscadru_plan"))
+            .stdin(input)
+            .output()
+            .expect("the planning program");
+        let listing = reference::program(&example.text);
+        assert!(listing.starts_with(b"(delay "), "{}", example.name);
+        assert!(output.stdout == listing, "{}", example.name);
+        let mut out = vec![0; listing.len()];
+        let length = plan_listing(&example.text, &mut out);
+        assert_eq!(length, listing.len() as u64, "{}", example.name);
+        assert!(out == listing, "{}", example.name);
+        let planned = &example.planned;
+        let totals = [
+            planned.words.len() as u32,
+            planned.frames.len() as u32,
+            planned.delay as u32,
+            planned.passed as u32,
+        ];
+        let wanted = [&planned.words[..], &planned.frames, &totals].map(bytes);
+        let [mut table, mut frames, mut sums] = wanted.clone().map(|bytes| vec![0; bytes.len()]);
+        let answer = plan_table(&example.text, &mut table, &mut frames, &mut sums);
+        assert_eq!(answer, table.len() as u64, "{}", example.name);
+        assert!([table, frames, sums] == wanted, "{}", example.name);
+    }
+}
+
+#[test]
+fn each_table_is_accepted() {
+    for example in examples() {
+        let delay = example.planned.delay;
+        let check = |delay| check_table(&example.text, &bytes(&example.planned.words), delay);
+        assert_eq!(check(delay), ACCEPTED, "{}", example.name);
+        for wrong in [delay - 1, delay + 1] {
+            assert_eq!(check(wrong), refused(20), "{}", example.name);
+        }
+    }
+}
+
+/// One panel for each combination, with the boxes that the table has.
+#[test]
+fn each_is_drawn() {
+    for example in examples() {
+        let all: Vec<Combination> = combinations(&example.lines).collect();
+        compare(&temporary(&example.name), &example.lines, &all, &[]);
+    }
+}
+
+/// With full ticks each combination ends at its own delay, so that the worst is reached.
+#[test]
+fn each_is_run_by_the_firmware() {
+    for example in examples() {
+        let table = temporary(&format!("{}.table", example.name));
+        let delay = example.planned.delay.to_string();
+        assert_eq!(example.unit("plan", &table, &[]), format!("{delay}\n"));
+        assert_eq!(example.unit("check", &table, &[delay]), "accepted\n");
+        let mut worst = 0;
+        for combination in combinations(&example.lines) {
+            let end = last_end(&example.run(&table, combination));
+            let wanted = example.planned.delays[combination as usize];
+            assert_eq!(end, wanted, "{} {combination}", example.name);
+            worst = worst.max(end);
+        }
+        assert_eq!(worst, example.planned.delay, "{}", example.name);
+    }
+}
+
+/// The inputs of a process in the words of the page.
+fn after(lines: &Lines, process: usize) -> String {
+    let inputs = lines.edges.iter().filter(|edge| edge.to == process as u64);
+    let inputs: Vec<String> = inputs
+        .map(|edge| match edge.when {
+            When::Always => edge.from.to_string(),
+            When::True(condition) => format!("{} (true {condition})", edge.from),
+            When::False(condition) => format!("{} (false {condition})", edge.from),
+        })
+        .collect();
+    let any = match lines.processes[process].waits {
+        Waits::All => "",
+        Waits::Any => "any of ",
+    };
+    format!("{any}{}", inputs.join(", "))
+}
+
+#[test]
+fn the_tables_of_the_feeder_are_its_lines() {
+    let Example { lines, planned, .. } = example("feeder");
+    let slots = table("| unit | slot bytes | is | fullest frame |");
+    let wanted = lines.slots.iter();
+    let wanted: Vec<_> = wanted.map(|s| numbers(&[s.node, s.bytes])).collect();
+    assert_eq!(first_cells(&slots, 2), wanted);
+    for slot in &lines.slots {
+        let of_unit = frames(&planned.frames).into_iter();
+        let used = of_unit.filter(|frame| u64::from(frame.node) == slot.node);
+        let fullest = used.map(|frame| u64::from(frame.bytes)).max();
+        assert_eq!(fullest, Some(slot.bytes), "{slot:?}");
+    }
+    let conditions = table("| condition | decided by | if true |");
+    let wanted = lines.conditions.iter().zip(0..);
+    let wanted: Vec<_> = wanted
+        .map(|(c, number)| numbers(&[number, c.process]))
+        .collect();
+    assert_eq!(first_cells(&conditions, 2), wanted);
+    let processes = table("| process | unit | ticks | after | does |");
+    let wanted = lines.processes.iter().enumerate();
+    let wanted: Vec<_> = wanted
+        .map(|(number, process)| {
+            let mut row = numbers(&[number as u64, process.node, process.ticks]);
+            row.push(after(&lines, number));
+            row
+        })
+        .collect();
+    assert_eq!(first_cells(&processes, 4), wanted);
+}
+
+/// The events that the page names stand in the run of that combination.
+#[test]
+fn the_page_names_events_of_runs() {
+    for (name, combination) in [("feeder", 7), ("largest", 2)] {
+        let example = example(name);
+        let table_file = temporary(&format!("{name}-events.table"));
+        example.unit("plan", &table_file, &[]);
+        let run = example.run(&table_file, combination);
+        let headings = format!("| tick | event in combination {combination} | that is |");
+        for row in table(&headings) {
+            let line = format!("{}: {}", row[0], row[1]);
+            assert!(run.lines().any(|printed| printed == line), "{name}: {line}");
+        }
+    }
+}
+
+/// The largest plan as the page lays it down: processes by stage and bay, and the edges of a bay.
+fn station() -> Lines {
+    const BAYS: u64 = 8;
+    const FEEDERS: u64 = 6;
+    let mut lines = bus(1, &Vec::from_iter((0..BAYS).map(|bay| (bay, 4)))).by_number();
+    for stage in table("| stage | ticks | waits | does |") {
+        for bay in 0..BAYS {
+            lines = match &*stage[2] {
+                "all" => lines.all(bay, number(&stage[1])),
+                "any" => lines.any(bay, number(&stage[1])),
+                other => panic!("{other}"),
+            };
+        }
+    }
+    for bay in 0..FEEDERS {
+        lines = lines.decides(3 * BAYS + bay);
+    }
+    for bay in 0..BAYS {
+        for edge in table("| from stage | to stage | bay | bytes | when |") {
+            let to = match &*edge[2] {
+                "own" => bay,
+                "next" => (bay + 1) % BAYS,
+                "previous" => (bay + BAYS - 1) % BAYS,
+                other => panic!("{other}"),
+            };
+            let when = match &*edge[4] {
+                "true" if bay < FEEDERS => When::True(bay),
+                "false" if bay < FEEDERS => When::False(bay),
+                _ => When::Always,
+            };
+            let from = number(&edge[0]) * BAYS + bay;
+            lines = lines.edge(from, number(&edge[1]) * BAYS + to, number(&edge[3]), when);
+        }
+    }
+    lines
+}
+
+#[test]
+fn the_largest_is_as_its_tables_say() {
+    let largest = example("largest");
+    assert!(print(&station()) == largest.text);
+    assert_eq!(largest.lines.pick, Pick::Number);
+}
+
+/// The sentences of the page that name delays.
+#[test]
+fn the_page_says_what_each_combination_takes() {
+    let [s, feeder, largest] = ["s", "feeder", "largest"].map(example);
+    let delays = &feeder.planned.delays;
+    let (worst, milliseconds) = (feeder.planned.delay, feeder.planned.delay as f64 / 10.0);
+    assert_eq!(feeder.worst(), [7, 15]);
+    let mut faster = feeder.lines.clone();
+    faster.processes[12].ticks = 22;
+    let helped = planned(&faster).delay;
+    faster.processes[12].ticks = 23;
+    assert_eq!(planned(&faster).delay, worst);
+    let sentences = [
+        format!(
+            "where it is false, everything ends at {}.",
+            s.planned.delays[0]
+        ),
+        format!("# {worst}, the worst delay"),
+        format!("target/feeder.table {worst}   # accepted"),
+        format!("The delay is {worst} ticks, {milliseconds} ms, in combinations 7 and 15:"),
+        format!("Without a fault everything ends at {}.", delays[0]),
+        format!(
+            "ends at {}, or with an earth fault at {}.",
+            delays[1], delays[3]
+        ),
+        format!("and the worst\ndelay is {helped}."),
+        format!("The delay is {} ticks, 21 ms,", largest.planned.delay),
+        format!(
+            "goes at 164, and everything ends at {}.",
+            largest.planned.delays[0]
+        ),
+    ];
+    let page = page();
+    for sentence in sentences {
+        assert!(page.contains(&sentence), "{sentence}");
+    }
+}

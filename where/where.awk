@@ -1,0 +1,431 @@
+# Says where a refused plan text fails: awk -v refused=N -f where.awk PLAN
+#
+# PLAN is a plan text that the planner refused with N, from 1 to 9. Prints the first line at which that sentence of
+# document 01 fails, by number, the line itself, and what was expected there; for 4, 5 and 7 also the earlier line that
+# it collides with. Prints nothing for another N, and where the text cannot be read. Of several plans each is told.
+#
+# The text comes through od, as numbers: not every awk can read a NUL, or tell whether the last line feed is there.
+# Bytes that are not printable, and the backslash, are shown as \xNN. Columns count bytes, from 1.
+
+# ---- reading ----
+
+# a file's name as a word of the shell
+function quoted(file,    parts, part, i, word) {
+    parts = split(file, part, "'")
+    word = "'" part[1]
+    for (i = 2; i <= parts; i++)
+        word = word "'\\''" part[i]
+    return word "'"
+}
+
+# Reads a text: its bytes and line feeds are counted, its lines kept as they are shown, and line and column of the byte
+# that is too many noted, 0 if none is. Says whether this worked.
+function read_text(file,    command, i, whole) {
+    split("", line)
+    split("", cut)
+    size = feeds = column = over = over_column = 0
+    command = "od -An -v -tu1 -N " (longest + widest) " <" quoted(file) " && echo whole"
+    while ((command | getline) > 0) {
+        if ($1 == "whole")
+            whole = 1
+        else
+            for (i = 1; i <= NF; i++)
+                take($i + 0)
+    }
+    close(command)
+    return whole
+}
+
+# takes the next byte of the text
+function take(byte) {
+    column++
+    if (++size == longest + 1) {
+        over = feeds + 1
+        over_column = column
+    }
+    if (byte == 10) {
+        feeds++
+        column = 0
+    } else if (column <= widest)
+        line[feeds + 1] = line[feeds + 1] shown[byte]
+    else
+        cut[feeds + 1] = 1
+}
+
+# whether this word comes next in `text`, from column `at` on; then goes behind it
+function word_comes(word,    have) {
+    have = substr(text, at, length(word))
+    if (have == word) {
+        at += length(word)
+        return 1
+    }
+    if (have == substr(word, 1, length(have)))
+        ended = 1
+    return 0
+}
+
+# whether a number comes next; then goes behind it and keeps it as the line's next figure
+function number_comes(    digits) {
+    match(substr(text, at) ".", /[^0-9]/)
+    digits = substr(text, at, RSTART - 1)
+    if (at > length(text))
+        ended = 1
+    if (digits == "" || length(digits) > 9 || digits ~ /^0./)
+        return 0
+    at += length(digits)
+    figure[++figures] = digits + 0
+    return 1
+}
+
+# whether a part of a line comes next: a blank (_), a number (N), a word, or one of several words (all|any)
+function part_comes(part,    words, word, i) {
+    ended = 0
+    if (part == "_")
+        return word_comes(" ")
+    if (part == "N")
+        return number_comes()
+    words = split(part, word, "|")
+    for (i = 1; i <= words; i++)
+        if (word_comes(word[i]))
+            return 1
+    return 0
+}
+
+# Whether `text` is a line of kind k. If it is not, `at` is the column from which on it differs, `wanted` is the part
+# that was expected there, none if the line's end was, and `ended` is 1 if the line only ends too early.
+function is_line(k,    parts, part, i) {
+    at = 1
+    figures = 0
+    parts = split(parts_of[k], part, " ")
+    for (i = 1; i <= parts; i++) {
+        if (part[i] == "always" && substr(text, at, 1) == "(") {
+            parts = split("( true|false _ N ) ) )", part, " ")
+            i = 1
+        }
+        if (!part_comes(part[i])) {
+            wanted = part[i]
+            return 0
+        }
+    }
+    wanted = ""
+    return at > length(text)
+}
+
+# the kind that `text` begins as, 0 if none
+function kind_of_text(    k) {
+    for (k = 1; k <= kinds; k++)
+        if (index(text, "(" name[k]) == 1)
+            return k
+    return 0
+}
+
+# whether a line of the kinds from `least` to `most` could begin with `text`
+function may_begin(    k) {
+    for (k = least; k <= most; k++)
+        if (index("(" name[k], text) == 1)
+            return 1
+    return text == ""
+}
+
+# Reads the lines of the form, up to the first that is not or the end: `good` is how many there are, with the kind and
+# the figures of each. Of the line behind them `found` is the kind that it begins as, `least` to `most` are the kinds
+# that may stand there, `fits` is 1 if it lacks nothing but its line feed, `ended` is 1 if it only ends too early. The
+# bytes that are too many are left out.
+function read_lines(    n, i) {
+    split("", count)
+    good = 0
+    least = most = 1
+    for (n = 1; ; n++) {
+        text = n == over ? substr(line[n], 1, over_column - 1) : line[n]
+        found = kind_of_text()
+        fits = 0
+        if (found < least || found > most) {
+            ended = may_begin()
+            return
+        }
+        fits = is_line(found)
+        if (!fits || n == over || n > feeds)
+            return
+        good = n
+        least = found == 1 ? 2 : found
+        most = kinds
+        kind[n] = found
+        line_of[found, count[found]++] = n
+        for (i = 1; i <= 4; i++)
+            figure_of[n, i] = i <= figures ? figure[i] : -1
+    }
+}
+
+# ---- saying ----
+
+function say(words) {
+    print "  " words
+}
+
+# a line with its number
+function numbered(n) {
+    return "line " n ":" (line[n] == "" ? "" : " " line[n]) (cut[n] ? " .. (cut here)" : "")
+}
+
+# says that line n fails, and why
+function fail(n, words) {
+    print numbered(n)
+    say(words)
+    return 1
+}
+
+# ---- 1: the form ----
+
+# what was expected, in words
+function wanted_words() {
+    if (wanted == "")
+        return "the end of the line"
+    if (wanted == "_")
+        return "a blank"
+    if (wanted == "N")
+        return "a number of " digits_of_number
+    if (wanted == "always")
+        return "always, (true N) or (false N)"
+    sub(/[|]/, "\" or \"", wanted)
+    return "\"" wanted "\""
+}
+
+# why a line that begins as it may is not of the form
+function wrong_inside(n,    why) {
+    why = "from column " at " on, expected " wanted_words()
+    if (ended)
+        return (n > feeds ? "the text" : "the line") " ends too early: " why
+    if (substr(text, at, 4) == "\\x0d")
+        return why "; a carriage return (\\x0d) stands there, and must not"
+    return why
+}
+
+# why a line does not begin as it may
+function wrong_beginning(n) {
+    if (size == 0)
+        return "the text is empty: the plan line is missing"
+    if (text == "")
+        return "the line is empty"
+    if (n > feeds && ended)
+        return "the text ends within this line"
+    if (index(text, "\\xef\\xbb\\xbf") == 1)
+        return "a byte order mark (\\xef\\xbb\\xbf) stands here, and must not"
+    if (found > most)
+        return "the plan line must be the first"
+    if (found == 1)
+        return "only the first line is a plan line"
+    if (found)
+        return "a " name[found] " line cannot stand below " (name[least] == "edge" ? "an " : "a ") name[least] " line"
+    return "no line that may stand here begins so"
+}
+
+# says which lines may stand behind those that are of the form
+function say_kinds(    k) {
+    say("expected a line of " (least == most ? "this form" : "one of these forms") ", N a number of " digits_of_number)
+    for (k = least; k <= most; k++)
+        say("  " form_of[k])
+}
+
+# the first line that is not of the form, or the last line feed that is missing, or the byte that is too many
+function form(    n) {
+    n = good + 1
+    if (n == over && (fits || ended))
+        fail(n, "column " over_column " is byte " (longest + 1) " of the text, and a text has at most " longest)
+    else if (fits)
+        fail(n, "the line feed at the end of the last line is missing")
+    else if (found >= least && found <= most) {
+        fail(n, wrong_inside(n))
+        say("the form of the line: " form_of[found])
+    } else if (n <= feeds || text != "" || size == 0) {
+        fail(n, wrong_beginning(n))
+        say_kinds()
+    }
+}
+
+# ---- 2 to 9: the lines ----
+
+# 2: the first line that is too many of its kind, or behind the place where a slot or process line is missing
+function counts(n, k,    needed) {
+    for (needed = 2; needed <= 3; needed++)
+        if (k > needed && !count[needed])
+            return fail(n, (k > kinds ? "the text ends, and" : "above this line") " there is no " name[needed] \
+                " line, and a text has 1 to " limit[needed])
+    if (k > kinds || ++seen[k] <= limit[k])
+        return 0
+    return fail(n, "this is " name[k] " line " seen[k] ", and a text has at most " limit[k])
+}
+
+# 3: the first line with a figure outside its range
+function sizes(n, k,    value) {
+    if (sized[k] == 0)
+        return 0
+    value = figure_of[n, sized[k]]
+    if (value >= 1 && value <= largest[k])
+        return 0
+    return fail(n, size_name[k] " is " value ", and must be from 1 to " largest[k])
+}
+
+# whether a figure is not below the number of lines of kind k
+function too_great(n, word, value, k) {
+    if (value < count[k])
+        return 0
+    return fail(n, word " is " value ", and must be below " (count[k] + 0) ", the number of " name[k] " lines")
+}
+
+# whether an earlier line has this key
+function taken(n, key, words) {
+    if (!(key in first_with)) {
+        first_with[key] = n
+        return 0
+    }
+    fail(n, words ":")
+    say(numbered(first_with[key]))
+    return 1
+}
+
+# 4: the first line with a node that has no slot, or the slot of a node that has one
+function nodes(n, k,    node) {
+    if (k != 2 && k != 3)
+        return 0
+    node = figure_of[n, 1]
+    return too_great(n, "node", node, 2) || \
+        k == 2 && taken(n, node, "node " node " has a slot already, and each node has exactly one")
+}
+
+# 5: the first condition of no process, or of one that decides a condition
+function conditions(n, k,    process) {
+    if (k != 4)
+        return 0
+    process = figure_of[n, 1]
+    return too_great(n, "process", process, 3) || \
+        taken(n, process, "process " process " decides a condition already, and decides at most one")
+}
+
+# 6: the first edge that names no process, or whose from is not below to
+function ends(n, k,    from, to) {
+    if (k != 5)
+        return 0
+    from = figure_of[n, 1]
+    to = figure_of[n, 2]
+    return too_great(n, "from", from, 3) || too_great(n, "to", to, 3) || \
+        from >= to && fail(n, "from is " from " and to is " to ", and from must be below to")
+}
+
+# 7: the first edge with both ends of an earlier one
+function pairs(n, k,    from, to) {
+    if (k != 5)
+        return 0
+    from = figure_of[n, 1]
+    to = figure_of[n, 2]
+    return taken(n, from " " to, "an edge from " from " to " to " is there already; put both messages into one")
+}
+
+# the process that decides a condition, -1 if there is no such condition
+function decider(condition) {
+    return condition < count[4] ? figure_of[line_of[4, condition], 1] : -1
+}
+
+# 8: the first edge whose when names a condition that its from process does not decide
+function whens(n, k,    from, condition, own) {
+    if (k != 5 || figure_of[n, 4] < 0)
+        return 0
+    from = figure_of[n, 1]
+    condition = figure_of[n, 4]
+    if (decider(condition) == from)
+        return 0
+    if (decider(condition) < 0)
+        fail(n, "there is no condition " condition ": the number of condition lines is " (count[4] + 0) \
+            ", and they are numbered from 0")
+    else
+        fail(n, "condition " condition " is decided by process " decider(condition) " (line " line_of[4, condition] \
+            "), and this edge is from process " from)
+    own = 0
+    while (own < count[4] && decider(own) != from)
+        own++
+    if (own < count[4])
+        say("process " from " decides condition " own ": write (true " own "), (false " own ") or always")
+    else
+        say("process " from " decides no condition: write always")
+    return 1
+}
+
+# the node of a process
+function node_of(process) {
+    return figure_of[line_of[3, process], 1]
+}
+
+# 9: the first message between nodes that is longer than its sender's slot
+function lengths(n, k,    node, slot, bytes) {
+    if (k != 5)
+        return 0
+    node = node_of(figure_of[n, 1])
+    if (node == node_of(figure_of[n, 2]))
+        return 0
+    for (slot = 2; slot <= count[2] + 1; slot++) {
+        bytes = figure_of[slot, 2]
+        if (figure_of[slot, 1] == node && figure_of[n, 3] > bytes)
+            return fail(n, "bytes is " figure_of[n, 3] ", and the slot of its sender's node " node " (line " slot \
+                ") has " bytes)
+    }
+    return 0
+}
+
+# whether the sentence of the refusal fails at line n, which is of kind k
+function fails(n, k) {
+    if (refused == 2)
+        return counts(n, k)
+    if (refused == 3)
+        return sizes(n, k)
+    if (refused == 4)
+        return nodes(n, k)
+    if (refused == 5)
+        return conditions(n, k)
+    if (refused == 6)
+        return ends(n, k)
+    if (refused == 7)
+        return pairs(n, k)
+    if (refused == 8)
+        return whens(n, k)
+    return lengths(n, k)
+}
+
+# the first line at which the sentence of the refusal fails; for 2, the end of the text counts as a line of a last kind
+function lines(    n) {
+    split("", seen)
+    split("", first_with)
+    kind[good + 1] = kinds + 1
+    for (n = 1; n <= good + (refused == 2); n++)
+        if (fails(n, kind[n]))
+            return
+}
+
+BEGIN {
+    longest = 16384
+    widest = 120
+    digits_of_number = "one to nine digits without a needless leading zero"
+    kinds = split("plan slot process condition edge", name, " ")
+    parts_of[1] = "( plan _ ( byte _ N ) _ ( pick _ urgency|number ) )"
+    parts_of[2] = "( slot _ ( node _ N ) _ ( bytes _ N ) )"
+    parts_of[3] = "( process _ ( node _ N ) _ ( ticks _ N ) _ ( waits _ all|any ) )"
+    parts_of[4] = "( condition _ ( process _ N ) )"
+    parts_of[5] = "( edge _ ( from _ N ) _ ( to _ N ) _ ( bytes _ N ) _ ( when _ always ) )"
+    form_of[1] = "(plan (byte N) (pick urgency)), or pick number"
+    form_of[2] = "(slot (node N) (bytes N))"
+    form_of[3] = "(process (node N) (ticks N) (waits all)), or waits any"
+    form_of[4] = "(condition (process N))"
+    form_of[5] = "(edge (from N) (to N) (bytes N) (when always)), or when (true N), or when (false N)"
+    split("1 8 64 6 128", limit, " ")
+    split("1 2 2 0 3", sized, " ")
+    split("byte bytes ticks - bytes", size_name, " ")
+    split("1000 64 100000 0 64", largest, " ")
+    for (b = 0; b < 256; b++)
+        shown[b] = b >= 32 && b <= 126 && b != 92 ? sprintf("%c", b) : sprintf("\\x%02x", b)
+    for (a = 1; a < ARGC; a++)
+        if (refused >= 1 && refused <= 9 && read_text(ARGV[a])) {
+            read_lines()
+            if (refused == 1)
+                form()
+            else if (good && good == feeds && column == 0 && !over)
+                lines()
+        }
+}
