@@ -66,23 +66,40 @@ refuse-says (calls.refuse c) = c .learnt
 pub read-plan-says : {text : List ℕ} {r : Read} → calls.Read-plan text r → Answers-text text (reading-of r) × Emptied r
 read-plan-says (calls.read-plan c) = (c .learnt .0, c .learnt .1)
 
-pub write-plan-says : {p : Plan} {out out-now : List ℕ} {r : Written} → calls.Write-plan p out out-now r →
+-- what the contract of `text_writer::write_plan` says
+abbrev pub Write-plan-said : Plan → (out out-now : List ℕ) → Written → Type 0
+Write-plan-said p out out-now r =
     (r ≡ writer.answer-of (write-plan (lines p) (length out))) × (out-now ≡ bytes-after (write-plan (lines p) (length out)) out)
+
+pub write-plan-says : {p : Plan} {out out-now : List ℕ} {r : Written} → calls.Write-plan p out out-now r → Write-plan-said p out out-now r
 write-plan-says (calls.write-plan c) = (c .learnt .0, c .learnt .1)
 
-pub plan-table-says : {p : Plan} {table frames table-now frames-now : List ℕ} {r : Planned} → calls.Plan-table p table frames table-now frames-now r →
+-- what the contract of `planner::plan_table` says
+abbrev pub Plan-table-said : Plan → (table frames table-now frames-now : List ℕ) → Planned → Type 0
+Plan-table-said p table frames table-now frames-now r =
     (r ≡ planner.answer-of (plan-answer (lines p) (length table) (length frames)))
     × (table-now ≡ table-after (plan-answer (lines p) (length table) (length frames)) table)
     × (frames-now ≡ frames-after (plan-answer (lines p) (length table) (length frames)) frames)
+
+pub plan-table-says : {p : Plan} {table frames table-now frames-now : List ℕ} {r : Planned} → calls.Plan-table p table frames table-now frames-now r → Plan-table-said p table frames table-now frames-now r
 plan-table-says (calls.plan-table c) = (c .learnt .0, c .learnt .1 .0, c .learnt .1 .1)
 
-pub write-listing-says : {p : Plan} {delay passed : ℕ} {table frames out out-now : List ℕ} {r : Listed} → calls.Write-listing p delay passed table frames out out-now r →
+-- what the contract of `listing::write_listing` says
+abbrev pub Write-listing-said : Plan → (delay passed : ℕ) → (table frames out out-now : List ℕ) → Listed → Type 0
+Write-listing-said p delay passed table frames out out-now r =
     (r ≡ listing.answer-of (listing.written-of (length out) (words-listing (lines p) delay passed table frames)))
     × (out-now ≡ bytes-after (listing.written-of (length out) (words-listing (lines p) delay passed table frames)) out)
+
+pub write-listing-says : {p : Plan} {delay passed : ℕ} {table frames out out-now : List ℕ} {r : Listed} → calls.Write-listing p delay passed table frames out out-now r → Write-listing-said p delay passed table frames out out-now r
 write-listing-says (calls.write-listing c) = (c .learnt .0, c .learnt .1)
 
-pub write-refusal-says : {number : ℕ} {out out-now : List ℕ} {r : Listed} → calls.Write-refusal number out out-now r →
-    (r ≡ listing.answer-of (listing.written-of (length out) (refused-line number))) × (out-now ≡ bytes-after (listing.written-of (length out) (refused-line number)) out)
+-- what the contract of `listing::write_refusal` says
+abbrev pub Write-refusal-said : ℕ → (out out-now : List ℕ) → Listed → Type 0
+Write-refusal-said number out out-now r =
+    (r ≡ listing.answer-of (listing.written-of (length out) (refused-line number)))
+    × (out-now ≡ bytes-after (listing.written-of (length out) (refused-line number)) out)
+
+pub write-refusal-says : {number : ℕ} {out out-now : List ℕ} {r : Listed} → calls.Write-refusal number out out-now r → Write-refusal-said number out out-now r
 write-refusal-says (calls.write-refusal c) = (c .learnt .0, c .learnt .1)
 
 pub list-plan-says : {text out out-now : List ℕ} {r : Listed} → calls.List-plan text out out-now r → Lists-plan text out out-now r
@@ -94,8 +111,12 @@ print-all-says (calls.print-all c) = c .learnt
 pub check-table-says : {p : Plan} {table : List ℕ} {delay : ℕ} {r : Checked} → calls.Check-table p table delay r → r ≡ checker.answer-of (check (lines p) table delay)
 check-table-says (calls.check-table c) = c .learnt
 
-pub row-entries-says : {place : ℕ × ℕ} {table : List ℕ} {row : ℕ} {part-place : ℕ × ℕ} {part : List ℕ} → calls.Row-entries place table row part-place part →
+-- what the contract of `kernel_rows::row_entries` says
+abbrev pub Row-entries-said : (place : ℕ × ℕ) → List ℕ → ℕ → (part-place : ℕ × ℕ) → List ℕ → Type 0
+Row-entries-said place table row part-place part =
     (part-place ≡ words-on place (row-start table row)) × (part ≡ row-part table row)
+
+pub row-entries-says : {place : ℕ × ℕ} {table : List ℕ} {row : ℕ} {part-place : ℕ × ℕ} {part : List ℕ} → calls.Row-entries place table row part-place part → Row-entries-said place table row part-place part
 row-entries-says (calls.row-entries c) = (c .learnt .0, c .learnt .1)
 
 pub lookup-says : {p : Plan} {table : List ℕ} {node tick heard values from : ℕ} {r : Found} → calls.Lookup p table node tick heard values from r →

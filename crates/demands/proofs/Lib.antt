@@ -1,9 +1,10 @@
--- The demands: One (a result, or the first refusal that applies, and then no buffer is changed), Two (a plan text means
--- what its printed form says, and what is planned is list scheduling), Three (the checker accepts exactly the sound
--- tables, those of the planner among them, and an accepted table runs as it should). Contracts has what is known of a
--- call of each function. Firsts, Told, Within, OneC and PlannedC (what `riscadru_plan_table` writes,
--- `riscadru_check_table` accepts) are what these rest on.
+-- The demands: One (a result, or the first refusal that applies, and then no buffer is changed), Two (a plan text
+-- means what its printed form says, and what is planned is list scheduling), Three (the checker accepts exactly the
+-- sound tables, those of the planner among them, and an accepted table runs as it should). Contracts has what is
+-- known of a call of each function, and Called that nothing more is. Firsts, Told, Within, OneC and PlannedC (what
+-- `riscadru_plan_table` writes, `riscadru_check_table` accepts) are what these rest on.
 pub mod Contracts
+pub mod Called
 pub mod Firsts
 pub mod Told
 pub mod Within
