@@ -1,5 +1,5 @@
--- The limits of document 01 by name, and what follows from them, for contracts; src/lib.rt has the same names for code,
--- each with its sentence of document 01, or its reason.
+-- The limits of documents 01 and 02 by name, and what follows from them, for contracts; src/lib.rt has the same names
+-- for code, each with its sentence of a document, or its reason.
 -- Assumes nothing.
 use Prim.Native.Nat.{ℕ}
 
@@ -75,13 +75,21 @@ BYTES = 64
 abbrev pub TICKS : ℕ
 TICKS = 100000
 
--- "A slot lasts bytes × byte ticks": the longest slot.
+-- "`(head 0)`, 0 to 16 bytes" (document 02, point 1): the most bytes that a frame has beside its data.
+abbrev pub HEAD : ℕ
+HEAD = 16
+
+-- "a slot lasts (bytes + head) × byte ticks": the longest slot.
 abbrev pub SLOTTICKS : ℕ
-SLOTTICKS = 64000
+SLOTTICKS = 80000
 
 -- "a round is the sum of its slots": the longest round.
 abbrev pub ROUNDTICKS : ℕ
-ROUNDTICKS = 512000
+ROUNDTICKS = 640000
+
+-- "all ticks added up plus 2 × round × (edges + conditions)": no delay exceeds it.
+abbrev pub DELAY : ℕ
+DELAY = 177920000
 
 -- "tick above 999,999,999": the last tick that a table can hold.
 abbrev pub LASTTICK : ℕ
