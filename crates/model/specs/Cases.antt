@@ -88,15 +88,15 @@ any-of n t = record { node = n; ticks = t; waits = waits-any }
 abbrev pub arc : ℕ → ℕ → ℕ → When → Edge
 arc i j b w = record { from = i; to = j; bytes = b; when = w }
 
--- a plan line with a head of no bytes: "document 01's cases have 0 there"
-abbrev pub headless : ℕ → Pick → PlanLine
-headless byte pick = record { byte = byte; head = 0; pick = pick }
+-- a plan line with 0 in the parts that document 02 adds: "document 01's cases have 0 there"
+abbrev pub line : ℕ → Pick → PlanLine
+line byte pick = record { byte = byte; head = 0; pick = pick }
 
 -- S, with the ticks of process 0 and the bytes of the third edge
 abbrev pub S-with : ℕ → ℕ → Lines
 S-with ticks third =
     record {
-      plan = headless 2 by-urgency;
+      plan = line 2 by-urgency;
       slots = slot 0 2 ∷ slot 1 2 ∷ [];
       processes = all-of 0 ticks ∷ all-of 1 3 ∷ all-of 0 5 ∷ any-of 0 2 ∷ [];
       conditions = 0 ∷ [];
@@ -126,7 +126,7 @@ edited e f v = set words-S (5 * e + f) v
 abbrev pub packing : Lines
 packing =
     record {
-      plan = headless 1 by-urgency;
+      plan = line 1 by-urgency;
       slots = slot 0 4 ∷ slot 1 1 ∷ [];
       processes = all-of 0 1 ∷ all-of 1 2 ∷ all-of 1 2 ∷ all-of 1 2 ∷ [];
       conditions = [];
@@ -157,15 +157,15 @@ headed-packing-words place =
 
 -- byte 1 and slots of two nodes, with no conditions: processes and edges
 abbrev pub plain : Pick → ℕ → ℕ → List Process → List Edge → Lines
-plain pick a b ps es = record { plan = headless 1 pick; slots = slot 0 a ∷ slot 1 b ∷ []; processes = ps; conditions = []; edges = es }
+plain pick a b ps es = record { plan = line 1 pick; slots = slot 0 a ∷ slot 1 b ∷ []; processes = ps; conditions = []; edges = es }
 
 -- the same with conditions
 abbrev pub deciding : ℕ → ℕ → List Process → List ℕ → List Edge → Lines
-deciding a b ps cs es = record { plan = headless 1 by-urgency; slots = slot 0 a ∷ slot 1 b ∷ []; processes = ps; conditions = cs; edges = es }
+deciding a b ps cs es = record { plan = line 1 by-urgency; slots = slot 0 a ∷ slot 1 b ∷ []; processes = ps; conditions = cs; edges = es }
 
 -- processes on one node
 abbrev pub one-node : Pick → List Process → Lines
-one-node pick ps = record { plan = headless 1 pick; slots = slot 0 1 ∷ []; processes = ps; conditions = []; edges = [] }
+one-node pick ps = record { plan = line 1 pick; slots = slot 0 1 ∷ []; processes = ps; conditions = []; edges = [] }
 
 abbrev pub case : Question → Outcome → Case
 case q o = record { asked = q; stated = o }

@@ -39,7 +39,7 @@ pub fn wrong_counts(slots: usize, processes: usize, conditions: usize, edges: us
 }
 
 // x is outside lo to hi.
-pub fn is_outside(x: u32, lo: u32, hi: u32) -> bool
+pub(crate) fn is_outside(x: u32, lo: u32, hi: u32) -> bool
     ensures { λ r. ⌜ r ≡ outside lo hi x ⌝ }
 {
     if x < lo {

@@ -12,7 +12,6 @@ pub use any_tests::any_repeat;
 pub use any_tests::any_twice;
 pub use any_tests::any_unordered;
 pub use fields::is_longer;
-pub use fields::is_outside;
 pub use fields::is_undecided;
 pub use fields::wrong_counts;
 pub use fields::wrong_plan_line;
