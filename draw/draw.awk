@@ -3,6 +3,9 @@
 # PLAN is a plan text and LISTING what the planning program prints for it. There is one panel for each combination of the conditions, or
 # for combination C alone: a row for each unit with its processes, a row for the bus with its frames, a line where each value becomes known,
 # and a line at the worst delay. Combination C has condition k true where bit k of C is 1.
+#
+# The box of a frame is as long as its slot, with the head. It is not divided into head and data: a plan does not say how many bytes of
+# the head go before the data and how many after them. Where there is a head, the line above the panels names it.
 
 function escaped(text) {
     gsub(/&/, "\\&amp;", text)
@@ -45,9 +48,9 @@ function met(i, c,    k) {
     return 1
 }
 
-# the ticks of node n's slot
+# the ticks of node n's slot: its bytes and those of the head
 function slot_ticks(n) {
-    return slot_bytes[n] * byte
+    return (slot_bytes[n] + head) * byte
 }
 
 # the combination in words
@@ -162,7 +165,7 @@ BEGIN {
 
 FNR == 1 { file++ }
 
-file == 1 && $1 == "plan" { byte = $3 }
+file == 1 && $1 == "plan" { byte = $3; head = $5 }
 file == 1 && $1 == "slot" { slot_bytes[$3] = $5; nodes++ }
 file == 1 && $1 == "process" { unit[processes] = $3; ticks[processes] = $5; processes++ }
 file == 1 && $1 == "condition" { decider[conditions] = $3; conditions++ }
@@ -208,7 +211,7 @@ END {
     print "text { font-size: 12px; } text.name, text.mark, text.value { text-anchor: middle; } text.mark { font-size: 10px; fill: #666; } text.value { fill: #31a354; } text.title, text.top { font-weight: bold; } text.top { fill: #c00; }"
     print "</style>"
     print "<rect width=\"100%\" height=\"100%\" fill=\"white\"/>"
-    say(8, 20, "top", "worst delay " delay " (red line), passed over " passed)
+    say(8, 20, "top", "worst delay " delay " (red line), passed over " passed (head > 0 ? ", head " head : ""))
     for (c = first; c < first + count; c++)
         draw_panel(c, 84 + (c - first) * panel)
     print "</svg>"

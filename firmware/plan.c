@@ -15,15 +15,22 @@ static uint32_t when_condition(const char *when)
     return condition;
 }
 
-static void read_line(struct plan *plan, uint32_t *byte, const char *line)
+/* What the plan line says of the bus. */
+struct bus {
+    uint32_t byte; /* ticks to a byte */
+    uint32_t head; /* bytes of a frame beside its data */
+};
+
+static void read_line(struct plan *plan, struct bus *bus, const char *line)
 {
     uint32_t a, b;
     char when[24];
-    if (sscanf(line, "(plan (byte %" SCNu32, &a) == 1) {
-        *byte = a;
+    if (sscanf(line, "(plan (byte %" SCNu32 ") (head %" SCNu32, &a, &b) == 2) {
+        bus->byte = a;
+        bus->head = b;
     } else if (sscanf(line, "(slot (node %" SCNu32 ") (bytes %" SCNu32, &a, &b) == 2) {
         /* The slots stand in bus order, which the lookup does not need: the table has the ticks. */
-        plan->slot_ticks[a] = b * *byte;
+        plan->slot_ticks[a] = (b + bus->head) * bus->byte;
         plan->nodes++;
     } else if (sscanf(line, "(process (node %" SCNu32 ") (ticks %" SCNu32, &a, &b) == 2) {
         plan->node[plan->processes] = a;
@@ -41,10 +48,10 @@ static void read_line(struct plan *plan, uint32_t *byte, const char *line)
 
 void plan_read(struct plan *plan, const char *text)
 {
-    uint32_t byte = 0;
+    struct bus bus = {0, 0};
     memset(plan, 0, sizeof *plan);
     for (const char *line = text; *line != '\0'; line = strchr(line, '\n') + 1) {
-        read_line(plan, &byte, line);
+        read_line(plan, &bus, line);
     }
 }
 

@@ -20,7 +20,7 @@ enum {
 
 struct plan {
     uint32_t nodes;
-    uint32_t slot_ticks[MOST_NODES]; /* by node: how long an item of its slot takes to arrive */
+    uint32_t slot_ticks[MOST_NODES]; /* by node: its slot with the head, after which an item arrives */
     uint32_t processes;
     uint32_t ticks[MOST_PROCESSES];
     uint32_t node[MOST_PROCESSES];

@@ -6,6 +6,11 @@
  * length says, stay lent for the call. A slice of no bytes may have any pointer but NULL. Lent bytes
  * do not overlap. Every function returns for every text and every buffer.
  *
+ * A plan text has the form of document 01, and in its plan line the part that document 02 adds after `byte`:
+ * (plan (byte 2) (head 0) (pick urgency)). A text without it is not of the form. `head` is how many bytes a
+ * frame has beside its data, from 0 to 16; above 16 it is refused with 3. A slot lasts (bytes + head) x byte
+ * ticks. Places, and the bytes of slots, messages and frames, count data only.
+ *
  * Nothing is allocated and nothing is kept between calls: a call works on its caller's stack. Measured on
  * x86-64, with S and with a largest plan, the least stack with which a process that made the call came through,
  * rounded up to 8 KiB: riscadru_plan_table 720 KiB, riscadru_plan_listing 456, riscadru_check_table 344,

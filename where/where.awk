@@ -1,8 +1,9 @@
 # Says where a refused plan text fails: awk -v refused=N -f where.awk PLAN
 #
 # PLAN is a plan text that the planner refused with N, from 1 to 9. Prints the first line at which that sentence of
-# document 01 fails, by number, the line itself, and what was expected there; for 4, 5 and 7 also the earlier line that
-# it collides with. Prints nothing for another N, and where the text cannot be read. Of several plans each is told.
+# document 01 fails (with the head of document 02), by number, the line itself, and what was expected there; for 4, 5
+# and 7 also the earlier line that it collides with. Prints nothing for another N, and where the text cannot be read.
+# Of several plans each is told.
 #
 # The text comes through od, as numbers: not every awk can read a NUL, or tell whether the last line feed is there.
 # Bytes that are not printable, and the backslash, are shown as \xNN. Columns count bytes, from 1.
@@ -200,6 +201,17 @@ function wrong_inside(n,    why) {
     return why
 }
 
+# Says what to do where the part head of a plan line is missing, as in every text of the form that document 01 has, or
+# stands elsewhere than between byte and pick.
+function say_head(    here) {
+    here = substr(text, at, 4)
+    if (wanted == "head" && here == "pick" && !index(text, "(head")) {
+        say("the part head is missing: write (head 0) after (byte " figure[1] ")")
+        say("head is the number of bytes that a frame has beside its data, from " smallest[1, 2] " to " largest[1, 2])
+    } else if (wanted == "head" && here == "pick" || wanted == "byte" && here == "head")
+        say("the part head must stand after byte and before pick")
+}
+
 # why a line does not begin as it may
 function wrong_beginning(n) {
     if (size == 0)
@@ -235,6 +247,7 @@ function form(    n) {
         fail(n, "the line feed at the end of the last line is missing")
     else if (found >= least && found <= most) {
         fail(n, wrong_inside(n))
+        say_head()
         say("the form of the line: " form_of[found])
     } else if (n <= feeds || text != "" || size == 0) {
         fail(n, wrong_beginning(n))
@@ -256,13 +269,20 @@ function counts(n, k,    needed) {
 }
 
 # 3: the first line with a figure outside its range
-function sizes(n, k,    value) {
-    if (sized[k] == 0)
-        return 0
-    value = figure_of[n, sized[k]]
-    if (value >= 1 && value <= largest[k])
-        return 0
-    return fail(n, size_name[k] " is " value ", and must be from 1 to " largest[k])
+function sizes(n, k,    i, value) {
+    for (i = 1; i <= 4; i++) {
+        value = figure_of[n, i]
+        if ((k, i) in size_name && (value < smallest[k, i] || value > largest[k, i]))
+            return fail(n, size_name[k, i] " is " value ", and must be from " smallest[k, i] " to " largest[k, i])
+    }
+    return 0
+}
+
+# the range of figure i in the lines of kind k, by the name of its part
+function range(k, i, word, from, to) {
+    size_name[k, i] = word
+    smallest[k, i] = from
+    largest[k, i] = to
 }
 
 # whether a figure is not below the number of lines of kind k
@@ -404,20 +424,22 @@ BEGIN {
     widest = 120
     digits_of_number = "one to nine digits without a needless leading zero"
     kinds = split("plan slot process condition edge", name, " ")
-    parts_of[1] = "( plan _ ( byte _ N ) _ ( pick _ urgency|number ) )"
+    parts_of[1] = "( plan _ ( byte _ N ) _ ( head _ N ) _ ( pick _ urgency|number ) )"
     parts_of[2] = "( slot _ ( node _ N ) _ ( bytes _ N ) )"
     parts_of[3] = "( process _ ( node _ N ) _ ( ticks _ N ) _ ( waits _ all|any ) )"
     parts_of[4] = "( condition _ ( process _ N ) )"
     parts_of[5] = "( edge _ ( from _ N ) _ ( to _ N ) _ ( bytes _ N ) _ ( when _ always ) )"
-    form_of[1] = "(plan (byte N) (pick urgency)), or pick number"
+    form_of[1] = "(plan (byte N) (head N) (pick urgency)), or pick number"
     form_of[2] = "(slot (node N) (bytes N))"
     form_of[3] = "(process (node N) (ticks N) (waits all)), or waits any"
     form_of[4] = "(condition (process N))"
     form_of[5] = "(edge (from N) (to N) (bytes N) (when always)), or when (true N), or when (false N)"
     split("1 8 64 6 128", limit, " ")
-    split("1 2 2 0 3", sized, " ")
-    split("byte bytes ticks - bytes", size_name, " ")
-    split("1000 64 100000 0 64", largest, " ")
+    range(1, 1, "byte", 1, 1000)
+    range(1, 2, "head", 0, 16)
+    range(2, 2, "bytes", 1, 64)
+    range(3, 2, "ticks", 1, 100000)
+    range(5, 3, "bytes", 1, 64)
     for (b = 0; b < 256; b++)
         shown[b] = b >= 32 && b <= 126 && b != 92 ? sprintf("%c", b) : sprintf("\\x%02x", b)
     for (a = 1; a < ARGC; a++)

@@ -16,7 +16,7 @@ mod sets;
 use std::process::Command;
 use std::time::{Duration, Instant};
 
-use sets::{compare, inputs, Input, Set, Way, CLASSES, SETS, UNCOUNTED};
+use sets::{compare, inputs, Class, Input, Set, Way, CLASSES, SETS, UNCOUNTED};
 
 /// How long the rounds of a class go on; the last one is finished.
 const TIME_PER_CLASS: Duration = Duration::from_millis(1_200);
@@ -45,19 +45,19 @@ fn print_all() {
     }
     for set in &SETS {
         println!("{}: {}", set.name, set.about);
-        for class in 0..CLASSES.len() {
+        for class in &CLASSES {
             print_class(set, class, counted);
         }
     }
 }
 
 /// Measures and prints a class of inputs.
-fn print_class(set: &Set, class: usize, counted: bool) {
+fn print_class(set: &Set, class: &Class, counted: bool) {
     let inputs = inputs(set, class);
     compare(set, &inputs);
     let mut ways = (set.ways)();
     let times = measure(&mut ways, &inputs);
-    let name = class_name(class);
+    let name = class.name();
     let counts: Vec<Option<u64>> = ways
         .iter()
         .map(|(way, _)| {
@@ -85,15 +85,12 @@ fn with_ratio(set: &Set, number: u64, first: u64) -> String {
     }
 }
 
-fn class_name(class: usize) -> String {
-    format!("{:?}", CLASSES[class].0)
-}
-
 /// Goes a way with the inputs of a class so many times over, for valgrind to count.
 fn repeat(set: &str, class: &str, way: &str, times: &str) {
     let set = SETS.iter().find(|s| s.name == set).expect("a set");
-    let class = (0..CLASSES.len())
-        .find(|&c| class_name(c) == class)
+    let class = CLASSES
+        .iter()
+        .find(|c| c.name() == class)
         .expect("a class of inputs");
     let mut ways = (set.ways)();
     let (_, go) = ways

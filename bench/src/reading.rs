@@ -1,6 +1,6 @@
 //! Reads a plan text in one pass over its bytes, into lines whose memory is used again.
 
-use reference::{Condition, Edge, Lines, Pick, Process, Slot, Waits, When};
+use reference::{Condition, Edge, Lines, Pick, PlanLine, Process, Slot, Waits, When};
 
 /// The longest text that is read.
 const LONGEST_TEXT: usize = 16_384;
@@ -8,8 +8,11 @@ const LONGEST_TEXT: usize = 16_384;
 /// Lines to read into.
 pub fn no_lines() -> Lines {
     Lines {
-        byte: 0,
-        pick: Pick::Number,
+        plan: PlanLine {
+            byte: 0,
+            head: 0,
+            pick: Pick::Number,
+        },
         slots: Vec::with_capacity(8),
         processes: Vec::with_capacity(64),
         conditions: Vec::with_capacity(6),
@@ -87,13 +90,13 @@ impl<'a> Rest<'a> {
 
     fn plan_line(self, lines: &mut Lines) -> Option<Self> {
         let (byte, rest) = self.after(b"(plan (byte ")?.number()?;
-        lines.byte = byte;
-        if let Some(rest) = rest.after(b" (pick urgency))\n") {
-            lines.pick = Pick::Urgency;
-            return Some(rest);
-        }
-        lines.pick = Pick::Number;
-        rest.after(b" (pick number))\n")
+        let (head, rest) = rest.after(b" (head ")?.number()?;
+        let (pick, rest) = match rest.after(b" (pick urgency))\n") {
+            Some(rest) => (Pick::Urgency, rest),
+            None => (Pick::Number, rest.after(b" (pick number))\n")?),
+        };
+        lines.plan = PlanLine { byte, head, pick };
+        Some(rest)
     }
 
     #[inline(always)]
@@ -190,6 +193,24 @@ mod tests {
                     }
                 }
             }
+        }
+    }
+
+    #[test]
+    fn the_head_stands_between_byte_and_pick() {
+        let mut lines = no_lines();
+        let mut reads = |line: &str| read(line.as_bytes(), &mut lines).then_some(lines.plan.head);
+        assert_eq!(reads("(plan (byte 2) (head 0) (pick urgency))\n"), Some(0));
+        assert_eq!(reads("(plan (byte 2) (head 17) (pick number))\n"), Some(17));
+        for line in [
+            "(plan (byte 2) (pick urgency))\n",
+            "(plan (byte 2) (head) (pick urgency))\n",
+            "(plan (byte 2) (head 00) (pick urgency))\n",
+            "(plan (head 0) (byte 2) (pick urgency))\n",
+            "(plan (byte 2) (pick urgency) (head 0))\n",
+            "(plan (byte 2) (head 0) (head 0) (pick urgency))\n",
+        ] {
+            assert_eq!(reads(line), None, "{line}");
         }
     }
 

@@ -29,7 +29,8 @@ fn wrong_counts(lines: &Lines) -> bool {
 
 fn wrong_sizes(lines: &Lines) -> bool {
     let outside = |number: u64, last: u64| number.wrapping_sub(1) >= last;
-    outside(lines.byte, 1_000)
+    outside(lines.plan.byte, 1_000)
+        || lines.plan.head > 16
         || lines.slots.iter().any(|s| outside(s.bytes, 64))
         || lines.edges.iter().any(|e| outside(e.bytes, 64))
         || lines.processes.iter().any(|p| outside(p.ticks, 100_000))

@@ -9,16 +9,61 @@ use bench::reading::{no_lines, read};
 use generate::{plan, Kind, Random};
 use reference::Lines;
 
-/// The classes of inputs and how many inputs each has.
-pub const CLASSES: [(Kind, u64); 7] = [
-    (Kind::Tiny, 64),
-    (Kind::DenseBus, 32),
-    (Kind::ManyConditions, 32),
-    (Kind::NestedAny, 32),
-    (Kind::Largest, 4),
-    (Kind::LongestRound, 32),
-    (Kind::ShortestRound, 32),
+/// A class of inputs: random plans of a kind.
+pub struct Class {
+    kind: Kind,
+    count: u64,
+    heads: Heads,
+}
+
+/// The bytes that the frames of a class have beside their data.
+#[derive(Clone, Copy)]
+enum Heads {
+    /// None: slots last as long as their data.
+    None,
+    /// From 0 to 16, by the number of the plan.
+    Random,
+}
+
+/// The classes of inputs.
+pub const CLASSES: [Class; 8] = [
+    Class::new(Kind::Tiny, 64, Heads::None),
+    Class::new(Kind::DenseBus, 32, Heads::None),
+    Class::new(Kind::ManyConditions, 32, Heads::None),
+    Class::new(Kind::NestedAny, 32, Heads::None),
+    Class::new(Kind::Largest, 4, Heads::None),
+    Class::new(Kind::Largest, 4, Heads::Random),
+    Class::new(Kind::LongestRound, 32, Heads::None),
+    Class::new(Kind::ShortestRound, 32, Heads::None),
 ];
+
+/// What the seed of a plan's head is beside the seed of the plan.
+const HEAD_SEEDS: u64 = 1 << 32;
+
+impl Class {
+    const fn new(kind: Kind, count: u64, heads: Heads) -> Self {
+        Class { kind, count, heads }
+    }
+
+    /// The name of the class.
+    pub fn name(&self) -> String {
+        match self.heads {
+            Heads::None => format!("{:?}", self.kind),
+            Heads::Random => format!("{:?}Heads", self.kind),
+        }
+    }
+
+    /// The plan of a number. Its head has a seed of its own: plans of one kind and number differ in
+    /// the head alone.
+    fn plan(&self, number: u64) -> Lines {
+        let mut lines = plan(self.kind, &mut Random::new(number));
+        lines.plan.head = match self.heads {
+            Heads::None => 0,
+            Heads::Random => Random::new(HEAD_SEEDS | number).between(0, 16),
+        };
+        lines
+    }
+}
 
 /// The least number of inputs of a class that begin with a text.
 const LEAST_TEXTS: u64 = 8;
@@ -92,21 +137,20 @@ pub const SETS: [Set; 4] = [
 ];
 
 /// The inputs of a class.
-pub fn inputs(set: &Set, class: usize) -> Vec<Input> {
-    let (kind, count) = CLASSES[class];
+pub fn inputs(set: &Set, class: &Class) -> Vec<Input> {
     let (words, frame_words, count) = if set.accepted {
         (
             PROGRAM_WORDS,
             PROGRAM_FRAME_WORDS,
-            count.max(LEAST_TEXTS) as usize,
+            class.count.max(LEAST_TEXTS) as usize,
         )
     } else {
-        (WORDS, FRAME_WORDS, count as usize)
+        (WORDS, FRAME_WORDS, class.count as usize)
     };
     let mut planner = Planner::default();
     let (mut words, mut frame_words) = (vec![0; words], vec![0; frame_words]);
     (0..)
-        .map(|number| plan(kind, &mut Random::new(number)))
+        .map(|number| class.plan(number))
         .filter_map(|lines| {
             let outcome = planner.plan(&lines, &mut words, &mut frame_words).ok()?;
             Some(Input {

@@ -1,4 +1,5 @@
--- Laws of the timetable: TimetableOfModel (what the arrays give is what the model says of the plan's lines), Beginnings
--- (how early and how late a slot begins).
+-- Laws of the timetable: TicksMost (how long a slot can be), TimetableOfModel (what the arrays give is what the model
+-- says of the plan's lines), Beginnings (how early and how late a slot begins).
+pub mod TicksMost
 pub mod TimetableOfModel
 pub mod Beginnings

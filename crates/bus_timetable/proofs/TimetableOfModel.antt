@@ -5,28 +5,27 @@ use mathlib.Core.Path.{_≡_, refl, sym, ap, _∙_}
 use mathlib.Core.Bool.{Bool, true, false}
 use mathlib.Core.List.{List, [], _∷_, map, List·Memᴰ as In, List·Memᴰ·head as here, List·Memᴰ·tail as there}
 use Prim.Native.Nat.{ℕ, _+_, _*_, _≤_, _<_}
-use native.Mathlib.Nat.{mul-le-mul}
 use native.Mathlib.Omega.{arith}
 use lib.Dec.{eqb}
 use lib.ListN.{length, getD}
-use borrow.Author.Tests.{ltb-false, leb-false, ne-eqb}
+use borrow.Author.Tests.{ltb-false, ne-eqb}
 use Rattle.limits.specs.Limits.{ROUNDTICKS}
 use Rattle.lists.specs.Lists.{if_then_else_, sum, below, fill}
 use Rattle.lists.proofs.Tests.{neither}
-use Rattle.lists.proofs.Members.{none-in, in-getD}
+use Rattle.lists.proofs.Members.{in-getD}
 use Rattle.lists.proofs.Places.{list-below}
 use Rattle.lists.proofs.Fill.{fill-at}
 use Rattle.model.specs.Plan.{Lines, Slot}
 use Rattle.model.specs.Bus.{slot-ticks, round, slot-of, offset-among, offset}
-use Rattle.model.specs.Refusals.{outside, nothing, wrong-counts, wrong-sizes, no-node, wrong-nodes, plan-refusal}
+use Rattle.model.specs.Refusals.{outside, nothing, wrong-counts, plan-refusal}
 use Rattle.laws.proofs.Good.{Good, pass, good}
-use Rattle.laws.proofs.Slots.{slot-ticks-one, slot-in-round}
+use Rattle.laws.proofs.Slots.{slot-ticks-one, slot-in-round, round-most}
 use Rattle.plan.specs.declared.Plan.{Plan}
 use Rattle.plan.specs.Memory.{lines}
 use Rattle.plan.specs.Tables.{slots-table}
 use Rattle.plan.proofs.TestsOnLines.{Few, few, counts-same, slots-length, slot-node, slot-room, room-same}
 use Rattle.bus_timetable.specs.declared.Timetable.{Timetable}
-use Rattle.bus_timetable.specs.Bus.{ticks-before, Small, table-of, timetable}
+use Rattle.bus_timetable.specs.Bus.{ticks-of, ticks-before, Short, Small, table-of, timetable}
 
 abbrev none : Slot
 none = record { node = 0; bytes = 0 }
@@ -48,17 +47,6 @@ module _ (p : Lines) where
       at true r = omega arith
       at false r = omega arith
 
-  sum-most : (ss : List Slot) → ((s : Slot) → In s ss → slot-ticks p s ≤ 64000) → sum (map (slot-ticks p) ss) ≤ 64000 * length ss
-  sum-most [] h = omega arith
-  sum-most (s ∷ ss) h = omega (arith, h s (here refl), sum-most ss (λ s m. h s (there m)))
-
-  module _ (g : Good p) where
-    round-most : round p ≤ 512000
-    unfolding slot-ticks
-    round-most =
-        let l = sum-most (p .slots) (λ s m. let r : s .bytes * p .byte ≤ 64 * 1000 = mul-le-mul (g .slot-most s m) (g .byte-most) in omega arith) in
-        omega (arith, g .few-slots)
-
 module _ (p : Plan) (h : plan-refusal (lines p) ≡ nothing) where
   kept : Good (lines p)
   kept = good (lines p) h
@@ -68,51 +56,48 @@ module _ (p : Plan) (h : plan-refusal (lines p) ≡ nothing) where
   fits = few p (counts-same p ∙ pass 2 _ _ h .0)
 
   node-below : (s : Slot) → In s (lines p .slots) → s .node < 8
-  unfolding plan-refusal wrong-nodes no-node
-  node-below s m =
-      let s2 = pass 2 (wrong-counts (lines p)) _ h in
-      let s3 = pass 3 (wrong-sizes (lines p)) _ (s2 .1) in
-      let s4 = pass 4 (wrong-nodes (lines p)) _ (s3 .1) in
-      let b = neither _ _ (s4 .0) in
-      let a = neither _ _ (b .0) in
-      let l : s .node < length (lines p .slots) = leb-false _ _ (none-in (λ s. no-node (lines p) (s .node)) (a .0) m) in
-      omega (arith, kept .few-slots)
+  node-below s m = omega (arith, kept .slot-node-in s m, kept .few-slots)
 
-  byte-same : p .byte ≡ lines p .byte
+  -- the ticks of a slot of so many bytes, by the plan in memory and by its lines
+  ticks-same : (bytes : ℕ) → ticks-of (p .line) bytes ≡ (bytes + lines p .plan .head) * lines p .plan .byte
   unfolding lines
-  byte-same = refl
+  ticks-same bytes = refl
 
-  pub small : Small (p .byte) (slots-table p .bytes) (p .slots)
+  short : Short (p .line)
+  unfolding lines
+  short = record { byte = kept .byte-most; head = kept .head-most }
+
+  pub small : Small (p .line) (slots-table p .bytes) (p .slots)
   small =
       record {
         few = fits .slots;
-        short = omega (arith, byte-same, kept .byte-most);
+        short = short;
         sizes = λ i l.
             let m = in-getD (lines p .slots) i none (omega (arith, slots-length p)) in
             omega (arith, slot-room p fits i, kept .slot-most (getD (lines p .slots) i none) m);
       }
 
   before-among : (n : ℕ) (is : List ℕ) →
-      ticks-before (p .byte) (slots-table p .node) (slots-table p .bytes) n is ≡ offset-among (lines p) (map (λ i. getD (lines p .slots) i none) is) n
+      ticks-before (p .line) (slots-table p .node) (slots-table p .bytes) n is ≡ offset-among (lines p) (map (λ i. getD (lines p .slots) i none) is) n
   unfolding ticks-before offset-among slot-ticks
   before-among n [] = refl
-  before-among n (i ∷ is) = λ j. if eqb (slot-node p fits i j) n then 0 else slot-room p fits i j * byte-same j + before-among n is j
+  before-among n (i ∷ is) = λ j. if eqb (slot-node p fits i j) n then 0 else (ap (ticks-of (p .line)) (slot-room p fits i) ∙ ticks-same _) j + before-among n is j
 
-  before-same : (n : ℕ) → ticks-before (p .byte) (slots-table p .node) (slots-table p .bytes) n (below (p .slots)) ≡ offset (lines p) n
+  before-same : (n : ℕ) → ticks-before (p .line) (slots-table p .node) (slots-table p .bytes) n (below (p .slots)) ≡ offset (lines p) n
   unfolding offset
   before-same n = before-among n (below (p .slots)) ∙ ap (λ (ss : List Slot). offset-among (lines p) ss n) (list-below none (lines p .slots) (p .slots) (slots-length p))
 
-  rounds-same : ticks-before (p .byte) (slots-table p .node) (slots-table p .bytes) 8 (below (p .slots)) ≡ round (lines p)
+  rounds-same : ticks-before (p .line) (slots-table p .node) (slots-table p .bytes) 8 (below (p .slots)) ≡ round (lines p)
   unfolding offset
   rounds-same = before-same 8 ∙ before-all (lines p) 8 (lines p .slots) node-below
 
-  pub timetable-same : table-of (p .byte) (slots-table p .node) (slots-table p .bytes) (p .slots) ≡ timetable (lines p)
+  pub timetable-same : table-of (p .line) (slots-table p .node) (slots-table p .bytes) (p .slots) ≡ timetable (lines p)
   unfolding table-of timetable slot-ticks
   timetable-same = λ j.
       record {
         round = rounds-same j;
         offset = fill 8 (λ n. before-same n j) (sym (slots-length p) j);
-        ticks = fill 8 (λ n. room-same p fits n j * byte-same j) (sym (slots-length p) j);
+        ticks = fill 8 (λ n. (ap (ticks-of (p .line)) (room-same p fits n) ∙ ticks-same _) j) (sym (slots-length p) j);
         bytes = fill 8 (λ n. room-same p fits n j) (sym (slots-length p) j);
       }
 

@@ -5,10 +5,11 @@ use mathlib.Core.List.{List, [], _∷_}
 use Prim.Native.Nat.{ℕ, _+_, _-_, _*_, _%_, _≤_, _<_}
 use lib.Dec.{eqb, leb}
 use lib.ListN.{length, getD}
-use Rattle.limits.specs.Limits.{NODES}
+use Rattle.limits.specs.Limits.{SLOTS, NODES, BYTE, BYTES, HEAD}
 use Rattle.lists.specs.Lists.{if_then_else_, below, fill}
 use Rattle.model.specs.Plan.{Lines}
 use Rattle.model.specs.Bus.{slot-ticks, round, slot-of, offset}
+use Rattle.plan.specs.declared.PlanLine.{PlanLine}
 use Rattle.plan.specs.Tests.{at, slot-bytes}
 use Rattle.bus_timetable.specs.declared.Place.{Place}
 use Rattle.bus_timetable.specs.declared.Timetable.{Timetable}
@@ -19,30 +20,39 @@ beginning-at round offset t =
     let gone : ℕ = t % round in
     (t - gone) + (if leb gone offset then offset else round + offset)
 
--- the ticks of the slots among `is` before a node's, or of all where it has none
-unfoldable pub ticks-before : ℕ → List ℕ → List ℕ → ℕ → List ℕ → ℕ
-ticks-before byte slot bytes node [] = 0
-ticks-before byte slot bytes node (i ∷ is) = if eqb (at slot i) node then 0 else at bytes i * byte + ticks-before byte slot bytes node is
+-- the ticks of a slot of so many bytes
+abbrev pub ticks-of : PlanLine → ℕ → ℕ
+ticks-of line bytes = (bytes + line .head) * line .byte
 
--- what refusals 2 and 3 leave of the arrays
-pub record Small (byte : ℕ) (bytes : List ℕ) (slots : ℕ) : Type 0 where
-  pub few : slots ≤ 8
-  pub short : byte ≤ 1000
-  pub sizes : (i : ℕ) → i < slots → getD bytes i 0 ≤ 64
+-- the ticks of the slots among `is` before a node's, or of all where it has none
+unfoldable pub ticks-before : PlanLine → List ℕ → List ℕ → ℕ → List ℕ → ℕ
+ticks-before line slot bytes node [] = 0
+ticks-before line slot bytes node (i ∷ is) =
+    if eqb (at slot i) node then 0 else ticks-of line (at bytes i) + ticks-before line slot bytes node is
+
+-- what refusal 3 leaves of the plan line, and refusals 2 and 3 of the arrays
+pub record Short (line : PlanLine) : Type 0 where
+  pub byte : line .byte ≤ BYTE
+  pub head : line .head ≤ HEAD
+
+pub record Small (line : PlanLine) (bytes : List ℕ) (slots : ℕ) : Type 0 where
+  pub few : slots ≤ SLOTS
+  pub short : Short line
+  pub sizes : (i : ℕ) → i < slots → getD bytes i 0 ≤ BYTES
 
 -- where a node's slot lies, and its bytes
-pub record Placed (byte : ℕ) (slot bytes : List ℕ) (slots node : ℕ) (r : Place) : Type 0 where
-  pub before : r .offset ≡ ticks-before byte slot bytes node (below slots)
+pub record Placed (line : PlanLine) (slot bytes : List ℕ) (slots node : ℕ) (r : Place) : Type 0 where
+  pub before : r .offset ≡ ticks-before line slot bytes node (below slots)
   pub room : r .bytes ≡ slot-bytes slot bytes node (below slots)
-  pub room-most : r .bytes ≤ 64
+  pub room-most : r .bytes ≤ BYTES
 
 -- the timetable of the arrays: no slot has node 8
-unfoldable pub table-of : ℕ → List ℕ → List ℕ → ℕ → Timetable
-table-of byte slot bytes slots =
+unfoldable pub table-of : PlanLine → List ℕ → List ℕ → ℕ → Timetable
+table-of line slot bytes slots =
     record {
-      round = ticks-before byte slot bytes 8 (below slots);
-      offset = fill 8 (λ n. ticks-before byte slot bytes n (below slots)) slots;
-      ticks = fill 8 (λ n. slot-bytes slot bytes n (below slots) * byte) slots;
+      round = ticks-before line slot bytes 8 (below slots);
+      offset = fill 8 (λ n. ticks-before line slot bytes n (below slots)) slots;
+      ticks = fill 8 (λ n. ticks-of line (slot-bytes slot bytes n (below slots))) slots;
       bytes = fill 8 (λ n. slot-bytes slot bytes n (below slots)) slots;
     }
 

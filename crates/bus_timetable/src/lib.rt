@@ -1,15 +1,18 @@
 // The bus of a plan in which refusals 2 to 9 find nothing: by node, where its slot lies in a round, and the first
 // beginning of it from a tick on.
-// Document 01: "A slot lasts bytes × byte ticks; a round is the sum of its slots; round 0 begins at tick 0."
+// Document 01: "a round is the sum of its slots; round 0 begins at tick 0." Document 02, point 1: "a slot lasts
+// (bytes + head) × byte ticks."
 use limits::NODES;
 use limits::NONODE;
 use plan::Plan;
+use plan::PlanLine;
 use plan::slot_table;
 ghost use mathlib.Core.Path.{_≡_};
-ghost use Prim.Native.Nat.{_<_};
+ghost use Prim.Native.Nat.{_<_, _≤_};
+ghost use Rattle.limits.specs.Limits.{BYTES};
 ghost use Rattle.model.specs.Refusals.{nothing, plan-refusal};
 ghost use Rattle.plan.specs.Memory.{lines};
-ghost use Rattle.bus_timetable.specs.Bus.{beginning-at, Small, Placed, table-of, timetable};
+ghost use Rattle.bus_timetable.specs.Bus.{beginning-at, ticks-of, Short, Small, Placed, table-of, timetable};
 
 // The ticks of a round and, by node, the ticks from its beginning to the node's slot, the slot's ticks and its bytes.
 pub struct Timetable {
@@ -38,22 +41,31 @@ pub fn first_beginning(round: u32, offset: u32, tick: u32) -> u32
     begun + (round + offset)
 }
 
+// The ticks that a slot of so many bytes of data lasts.
+fn slot_ticks(line: PlanLine, bytes: u32) -> u32
+    requires { ⌜ Short line × (bytes ≤ BYTES) ⌝ }
+    ensures { λ r. ⌜ r ≡ ticks-of line bytes ⌝ }
+{
+    let whole = bytes + line.head;
+    whole * line.byte
+}
+
 // The ticks before a node's slot, and its bytes: those of all slots, and 0, where it has none.
 fn find<'a>(
     slot: &'a [u32; NODES],
     bytes: &'a [u32; NODES],
     slots: usize,
-    byte: u32,
+    line: PlanLine,
     node: u32,
 ) -> Place
-    requires { ⌜ Small byte (now bytes) slots ⌝ }
-    ensures { λ r. ⌜ Placed byte (now (slot .entry)) (now (bytes .entry)) slots node r ⌝ }
+    requires { ⌜ Small line (now bytes) slots ⌝ }
+    ensures { λ r. ⌜ Placed line (now (slot .entry)) (now (bytes .entry)) slots node r ⌝ }
 {
     let mut sum: u32 = 0;
     let mut i: usize = 0;
     while i < slots {
         let b = bytes[i];
-        let next = sum + b * byte;
+        let next = sum + slot_ticks(line, b);
         if slot[i] == node {
             let offset = sum;
             return Place { offset, bytes: b };
@@ -72,24 +84,24 @@ fn of_slots<'a>(
     slot: &'a [u32; NODES],
     bytes: &'a [u32; NODES],
     slots: usize,
-    byte: u32,
+    line: PlanLine,
 ) -> Timetable
-    requires { ⌜ Small byte (now bytes) slots ⌝ }
-    ensures { λ r. ⌜ r ≡ table-of byte (now (slot .entry)) (now (bytes .entry)) slots ⌝ }
+    requires { ⌜ Small line (now bytes) slots ⌝ }
+    ensures { λ r. ⌜ r ≡ table-of line (now (slot .entry)) (now (bytes .entry)) slots ⌝ }
 {
     let mut offset = [0u32; NODES];
     let mut ticks = [0u32; NODES];
     let mut room = [0u32; NODES];
     let mut n: usize = 0;
     while n < slots {
-        let s = find(slot, bytes, slots, byte, n as u32);
+        let s = find(slot, bytes, slots, line, n as u32);
         let b = s.bytes;
         offset[n] = s.offset;
-        ticks[n] = b * byte;
+        ticks[n] = slot_ticks(line, b);
         room[n] = b;
         n += 1;
     }
-    let all = find(slot, bytes, slots, byte, NONODE);
+    let all = find(slot, bytes, slots, line, NONODE);
     Timetable {
         round: all.offset,
         offset,
@@ -104,5 +116,5 @@ pub fn of_plan(p: Plan) -> Timetable
     ensures { λ r. ⌜ r ≡ timetable (lines p) ⌝ }
 {
     let s = slot_table(p);
-    of_slots(&s.node, &s.bytes, p.slots, p.byte)
+    of_slots(&s.node, &s.bytes, p.slots, p.line)
 }

@@ -2,7 +2,7 @@
 -- means what its printed form says, and what is planned is list scheduling), Three (the checker accepts exactly the
 -- sound tables, those of the planner among them, and an accepted table runs as it should). Contracts has what is
 -- known of a call of each function, and Called that nothing more is. Firsts, Told, Within, OneC and PlannedC (what
--- `riscadru_plan_table` writes, `riscadru_check_table` accepts) are what these rest on.
+-- `riscadru_plan_table` writes, `riscadru_check_table` accepts) are what these rest on. PointOne is document 02's point 1.
 pub mod Contracts
 pub mod Called
 pub mod Firsts
@@ -13,3 +13,4 @@ pub mod One
 pub mod Two
 pub mod PlannedC
 pub mod Three
+pub mod PointOne

@@ -4,3 +4,4 @@ pub mod Kernel
 pub mod One
 pub mod Two
 pub mod Three
+pub mod PointOne

@@ -109,7 +109,7 @@ pub record Demand-2 : Type 0 where
   -- those its edges lead to, 0 if none"; with pick number all weigh the same, which leaves the number.
   pub urgency : (p : Lines) → First-of (plan-sentences p) nothing → (i : ℕ) → i < length (p .processes) →
       getD (urgencies p) i 0 ≡ process p i .ticks + greatest (map (λ e. getD (urgencies p) (edge p e .to) 0) (out-of p i))
-  pub by-weight : (p : Lines) → (p .pick ≡ by-urgency → weights p ≡ urgencies p) × (p .pick ≡ by-number → (i : ℕ) → getD (weights p) i 0 ≡ 0)
+  pub by-weight : (p : Lines) → (p .plan .pick ≡ by-urgency → weights p ≡ urgencies p) × (p .plan .pick ≡ by-number → (i : ℕ) → getD (weights p) i 0 ≡ 0)
   -- "Each free node starts its ready process of highest urgency, ties to the lower number."
   pub starts-first : (p : Lines) (v : View) (t u : ℕ) (x : Placed) → In x (unit-starts p v t u) → (candidate p v u (x .row) ≡ true) ×
       ((j : ℕ) → j < length (p .processes) → candidate p v u j ≡ true → (x .row ≡ j → ⊥) → Goes-first (λ i. getD (weights p) i 0) (x .row) j)

@@ -1,4 +1,4 @@
--- The bound on planning: no delay exceeds it, from it on nothing changes, and it is a tick that a table can hold.
+-- The bound on planning: no delay exceeds it, from it on nothing changes, and how large it can be.
 -- Assumes nothing.
 use mathlib.Core.Path.{_≡_, sym, ap, _∙_, subst}
 use mathlib.Core.Bool.{Bool, true, false}
@@ -7,12 +7,13 @@ use Prim.Native.Nat.{ℕ, zero, suc, _+_, _*_, _≤_, _<_}
 use native.Mathlib.Nat.{add-zero, add-suc, mul-le-mul}
 use native.Mathlib.Omega.{arith}
 use lib.ListN.{length, getD}
+use Rattle.limits.specs.Limits.{ROUNDTICKS, DELAY}
 use Rattle.lists.specs.Lists.{if_then_else_, sum}
 use Rattle.lists.proofs.Tests.{clash}
 use Rattle.lists.proofs.Members.{no-members}
-use Rattle.lists.proofs.Sums.{greatest-le, sum-most, sum-most-in}
+use Rattle.lists.proofs.Sums.{greatest-le, sum-most}
 use Rattle.model.specs.Plan.{Lines}
-use Rattle.model.specs.Bus.{is-process, rows, transit, slot-ticks, round}
+use Rattle.model.specs.Bus.{is-process, rows, transit, round}
 use Rattle.model.specs.Log.{Placed, placed, full-ticks, span, process-end, delay}
 use Rattle.model.specs.Planning.{View, view, State, before, bound, planned}
 use Rattle.model.specs.Refusals.{nothing, plan-refusal}
@@ -22,6 +23,7 @@ use Rattle.laws.proofs.OnlyDue.{started-due, pending-due, only-due}
 use Rattle.laws.proofs.Progress.{everything-over, over-by-bound}
 use Rattle.laws.proofs.UnchangedTicks.{idle-step}
 use Rattle.laws.proofs.Rows.{in-placed, full-tick, full-length}
+use Rattle.laws.proofs.Slots.{round-most}
 use Rattle.laws.proofs.Steps.{pending-fresh, pending-in, starts-in, log-at, view-at}
 
 module _ (p : Lines) (c : List Bool) (passes : plan-refusal p ≡ nothing) (count : length c ≡ length (p .conditions)) where
@@ -60,16 +62,12 @@ module _ (p : Lines) (c : List Bool) (passes : plan-refusal p ≡ nothing) (coun
   planning-ends zero = ap (before p c) (add-zero (bound p))
   planning-ends (suc k) = ap (before p c) (add-suc (bound p) k) ∙ at-rest (bound p + k) (planning-ends k)
 
-pub bound-small : (p : Lines) → Good p → bound p ≤ 999999999
-unfolding slot-ticks
+pub bound-small : (p : Lines) → Good p → bound p ≤ DELAY
 bound-small p g =
     let a : sum (full-ticks p) ≤ 100000 * length (full-ticks p) =
     sum-most (full-ticks p) 100000 (λ i l. let u = g .ticks-most i (omega (arith, full-length p)) in omega (arith, full-tick p i)) in
-    let b : round p ≤ 64000 * length (p .slots) = sum-most-in (slot-ticks p) (p .slots) 64000 (λ s m. mul-le-mul (g .slot-most s m) (g .byte-most)) in
-    let fs = g .few-slots in
     let fe = g .few-edges in
     let fc = g .few-conditions in
-    let r : round p ≤ 512000 = omega arith in
     let k : length (p .edges) + length (p .conditions) ≤ 134 = omega arith in
-    let m : round p * (length (p .edges) + length (p .conditions)) ≤ 512000 * 134 = mul-le-mul r k in
+    let m : round p * (length (p .edges) + length (p .conditions)) ≤ ROUNDTICKS * 134 = mul-le-mul (round-most p g) k in
     omega (arith, full-length p, g .few-processes)

@@ -50,11 +50,11 @@ module _ (p : Lines) where
   urgency-law g i l = law-from g 0 (length (p .processes)) (λ k. ap (λ (j : ℕ). getD (urgencies p) j 0) (omega arith)) i (omega arith) (omega arith)
 
   -- The weights are the urgencies; for pick number they are all 0, which leaves the number.
-  pub urgency-weights : p .pick ≡ by-urgency → weights p ≡ urgencies p
+  pub urgency-weights : p .plan .pick ≡ by-urgency → weights p ≡ urgencies p
   unfolding weights weights-by
   urgency-weights e = ap (weights-by p) e
 
-  pub number-weights : p .pick ≡ by-number → (i : ℕ) → getD (weights p) i 0 ≡ 0
+  pub number-weights : p .plan .pick ≡ by-number → (i : ℕ) → getD (weights p) i 0 ≡ 0
   unfolding weights weights-by
   number-weights e i = ap (λ (c : Pick). getD (weights-by p c) i 0) e
 

@@ -14,18 +14,20 @@ use Rattle.lists.proofs.Members.{none-in, none-at, in-below, map-in}
 use Rattle.lists.proofs.Different.{all-there}
 use Rattle.model.specs.Plan.{Lines, Slot, Process, Edge, waits-all, When, always, on, process, edge, decider, local, unit, units}
 use Rattle.model.specs.Bus.{slot-of}
-use Rattle.model.specs.Refusals.{Refusal, nothing, sentence, outside, twin-edges, undecided, wrong-counts, wrong-slot, wrong-edge, wrong-ticks, wrong-sizes, no-node, wrong-nodes, no-process, wrong-deciders, wrong-ends, wrong-when, too-long, plan-refusal}
+use Rattle.model.specs.Refusals.{Refusal, nothing, sentence, outside, twin-edges, undecided, wrong-counts, wrong-plan, wrong-slot, wrong-edge, wrong-ticks, wrong-sizes, no-node, wrong-nodes, no-process, wrong-deciders, wrong-ends, wrong-when, too-long, plan-refusal}
 
 pub record Good (p : Lines) : Type 0 where
   pub few-slots : length (p .slots) ≤ 8
   pub few-processes : length (p .processes) ≤ 64
   pub few-conditions : length (p .conditions) ≤ 6
   pub few-edges : length (p .edges) ≤ 128
-  pub byte-most : p .byte ≤ 1000
+  pub byte-most : p .plan .byte ≤ 1000
+  pub head-most : p .plan .head ≤ 16
   pub slot-most : (s : Slot) → In s (p .slots) → s .bytes ≤ 64
   pub edge-one : (e : ℕ) → e < length (p .edges) → 1 ≤ edge p e .bytes
+  pub edge-most : (e : ℕ) → e < length (p .edges) → edge p e .bytes ≤ 64
   pub ticks-most : (i : ℕ) → i < length (p .processes) → process p i .ticks ≤ 100000
-  pub byte-one : 1 ≤ p .byte
+  pub byte-one : 1 ≤ p .plan .byte
   pub slot-one : (s : Slot) → In s (p .slots) → 1 ≤ s .bytes
   pub ticks-one : (i : ℕ) → i < length (p .processes) → 1 ≤ process p i .ticks
   pub has-slot : (i : ℕ) → i < length (p .processes) → (s : Slot) × In s (p .slots) × (s .node ≡ process p i .node)
@@ -77,7 +79,7 @@ module _ (p : Lines) where
   slot-with n m = let r = map-in (λ s. s .node) (p .slots) m in (r .0, r .1, sym (r .2))
 
 pub good : (p : Lines) → plan-refusal p ≡ nothing → Good p
-unfolding plan-refusal wrong-counts wrong-slot wrong-edge wrong-ticks wrong-sizes no-node wrong-nodes no-process wrong-deciders wrong-ends wrong-when too-long unit units
+unfolding plan-refusal wrong-counts wrong-plan wrong-slot wrong-edge wrong-ticks wrong-sizes no-node wrong-nodes no-process wrong-deciders wrong-ends wrong-when too-long unit units
 good p h =
     let no-edge : Edge = record { from = 0; to = 0; bytes = 0; when = always } in
     let no-process′ : Process = record { node = 0; ticks = 0; waits = waits-all } in
@@ -95,6 +97,7 @@ good p h =
     let a3 = neither _ _ (s3 .0) in
     let b3 = neither _ _ (a3 .0) in
     let c3 = neither _ _ (b3 .0) in
+    let d3 = neither _ _ (c3 .0) in
     let a4 = neither _ _ (s4 .0) in
     let b4 = neither _ _ (a4 .0) in
     let a5 = neither _ _ (s5 .0) in
@@ -111,11 +114,13 @@ good p h =
       few-processes = inside 1 64 (length (p .processes)) (c2 .1) .1;
       few-conditions = ltb-false 6 (length (p .conditions)) (b2 .1);
       few-edges = ltb-false 128 (length (p .edges)) (a2 .1);
-      byte-most = inside 1 1000 (p .byte) (c3 .0) .1;
+      byte-most = inside 1 1000 (p .plan .byte) (d3 .0) .1;
+      head-most = ltb-false 16 (p .plan .head) (d3 .1);
       slot-most = λ s m. inside 1 64 (s .bytes) (none-in wrong-slot (c3 .1) m) .1;
       edge-one = λ e l. inside 1 64 (edge p e .bytes) (none-at wrong-edge (p .edges) e no-edge (b3 .1) l) .0;
+      edge-most = λ e l. inside 1 64 (edge p e .bytes) (none-at wrong-edge (p .edges) e no-edge (b3 .1) l) .1;
       ticks-most = λ i l. inside 1 100000 (process p i .ticks) (none-at wrong-ticks (p .processes) i no-process′ (a3 .1) l) .1;
-      byte-one = inside 1 1000 (p .byte) (c3 .0) .0;
+      byte-one = inside 1 1000 (p .plan .byte) (d3 .0) .0;
       slot-one = λ s m. inside 1 64 (s .bytes) (none-in wrong-slot (c3 .1) m) .0;
       ticks-one = λ i l. inside 1 100000 (process p i .ticks) (none-at wrong-ticks (p .processes) i no-process′ (a3 .1) l) .0;
       has-slot = λ i l. slot-with p (process p i .node) (there i l);

@@ -1,11 +1,11 @@
--- Theorems about the definitions of document 01, for every plan in which refusals 2 to 9 find nothing. A reader's
--- guide, bottom up:
+-- Theorems about the definitions of documents 01 and 02, for every plan in which refusals 2 to 9 find nothing. A
+-- reader's guide, bottom up:
 --
 -- What is used everywhere
 --   Good            the facts that refusals 2 to 9 leave of a plan, as a record
 --   Active          who runs: a process is active just where all, or for `any` at least one, of its edges carry
---   Slots           `first-beginning` is the first beginning of a node's slot at or after a tick; at most one slot
--- begins at a tick
+--   Slots           how long slots and rounds can be; `first-beginning` is the first beginning of a node's slot at or
+-- after a tick; at most one slot begins at a tick
 --   Rows            what is due of a row, who sends it, how long it lasts; what a log says of a row
 --   Rules           the rules that a log keeps (`Kept`), and a table whose met entries keep them in every combination
 -- (`Lawful`)
@@ -20,12 +20,12 @@
 --   Events          which slot begins at a tick, what it goes by, and how many slots pass a ready item over
 --   History         what stands in the log was placed at its tick, and what was over or known then stays so
 --   Safety          `planning-keeps`: the log before every tick keeps the rules
+--   Heads           of any plan: those that differ in the head alone are refused alike, and slots take the same items
 --
 -- Planning comes to an end
 --   Potential, Frozen, Progress   what is left to do falls, and where nothing is left everything due is placed:
 -- `everything-over`
---   Bound           `delay-within` document 01's bound, `planning-ends` there, and the bound is a tick that a table can
--- hold
+--   Bound           `delay-within` document 01's bound, `planning-ends` there, and how large the bound can be
 --   Sharing         the plans of two combinations that differ in one condition are the same until its value arrives,
 -- and what was placed by then can be read
 --                   off the finished plan
@@ -63,6 +63,7 @@ pub mod Once
 pub mod Events
 pub mod History
 pub mod Safety
+pub mod Heads
 pub mod Potential
 pub mod Frozen
 pub mod Progress

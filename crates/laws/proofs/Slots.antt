@@ -1,5 +1,5 @@
--- The bus: a node has one slot, `first-beginning` is the first beginning of it at or after a tick, and at most one slot
--- begins at a tick.
+-- The bus: how long slots and rounds can be, a node has one slot, `first-beginning` is the first beginning of it at or
+-- after a tick, and at most one slot begins at a tick.
 -- Assumes nothing.
 use mathlib.Core.Path.{_≡_, refl, sym, ap, _∙_, subst}
 use mathlib.Core.Logic.{_⊎_, inl, inr}
@@ -11,10 +11,11 @@ use native.Mathlib.Omega.{arith}
 use lib.Dec.{eqb, leb, ltb}
 use lib.ListN.{length}
 use borrow.Author.Tests.{eq-eqb, eqb-true, leb-true, leb-false, ltb-true, ltb-false}
+use Rattle.limits.specs.Limits.{SLOTTICKS, ROUNDTICKS}
 use Rattle.lists.specs.Lists.{if_then_else_, any, sum, repeated}
 use Rattle.lists.proofs.Tests.{two, clash, neither}
 use Rattle.lists.proofs.Members.{in-any, in-map, keep-in, in-keep}
-use Rattle.lists.proofs.Sums.{sum-in}
+use Rattle.lists.proofs.Sums.{sum-in, sum-most-in}
 use Rattle.model.specs.Plan.{Lines, Slot, process}
 use Rattle.model.specs.Bus.{slot-ticks, round, slot-among, slot-of, offset-among, offset, first-beginning, begins, beginning}
 use Rattle.laws.proofs.Good.{Good}
@@ -147,7 +148,17 @@ module _ (p : Lines) where
   module _ (g : Good p) where
     pub slot-ticks-one : (s : Slot) → In s (p .slots) → 1 ≤ slot-ticks p s
     unfolding slot-ticks
-    slot-ticks-one s m = mul-pos (g .slot-one s m) (g .byte-one)
+    slot-ticks-one s m = let l = g .slot-one s m in mul-pos (omega arith) (g .byte-one)
+
+    -- "a slot lasts (bytes + head) × byte ticks": at most so many
+    pub slot-ticks-most : (s : Slot) → In s (p .slots) → slot-ticks p s ≤ SLOTTICKS
+    unfolding slot-ticks
+    slot-ticks-most s m =
+        let l : s .bytes + p .plan .head ≤ 80 = omega (arith, g .slot-most s m, g .head-most) in
+        mul-le-mul l (g .byte-most)
+
+    pub round-most : round p ≤ ROUNDTICKS
+    round-most = omega (arith, sum-most-in (slot-ticks p) (p .slots) SLOTTICKS slot-ticks-most, g .few-slots)
 
     pub slot-in-round : (s : Slot) → In s (p .slots) → slot-ticks p s ≤ round p
     slot-in-round s m = sum-in (slot-ticks p s) (map (slot-ticks p) (p .slots)) (in-map (slot-ticks p) m)

@@ -1,7 +1,7 @@
--- The limits of document 01 by name, and what follows from them, for contracts; src/lib.rt has the same names for code,
--- each with its sentence of document 01, or its reason.
+-- The limits of documents 01 and 02 by name, and what follows from them, for contracts, each with its sentence of a
+-- document, or its reason; src/lib.rt has the same names for code, where code needs them.
 -- Assumes nothing.
-use Prim.Native.Nat.{ℕ}
+use Prim.Native.Nat.{ℕ, _+_, _*_}
 
 -- "There are not 1 to 8 slots": the most slots that a plan has.
 abbrev pub SLOTS : ℕ
@@ -9,7 +9,7 @@ SLOTS = 8
 
 -- Each slot is another node's (refusal 4): the most nodes.
 abbrev pub NODES : ℕ
-NODES = 8
+NODES = SLOTS
 
 -- A number that no node has.
 abbrev pub NONODE : ℕ
@@ -33,35 +33,35 @@ COMBINATIONS = 64
 
 -- "Rows: processes, then edges, then conditions": the row of condition 0 is at most this.
 abbrev pub CONDITIONROW : ℕ
-CONDITIONROW = 192
+CONDITIONROW = PROCESSES + EDGES
 
 -- The most rows.
 abbrev pub ROWS : ℕ
-ROWS = 198
+ROWS = CONDITIONROW + CONDITIONS
 
 -- Where the entries of each row end in an array, and where those of row 0 begin.
 abbrev pub ROWENDS : ℕ
-ROWENDS = 199
+ROWENDS = ROWS + 1
 
 -- Where each group of an array begins, of at most 64 groups, and where the last one ends.
 abbrev pub STARTS : ℕ
-STARTS = 65
+STARTS = PROCESSES + 1
 
 -- The most entries of a start table: one for each combination and row.
 abbrev pub ENTRIES : ℕ
-ENTRIES = 12672
+ENTRIES = COMBINATIONS * ROWS
 
 -- "five to an entry": their words.
 abbrev pub TABLEWORDS : ℕ
-TABLEWORDS = 63360
+TABLEWORDS = 5 * ENTRIES
 
 -- The most frames of a frame list: one for each combination and item.
 abbrev pub FRAMES : ℕ
-FRAMES = 8576
+FRAMES = COMBINATIONS * (EDGES + CONDITIONS)
 
 -- "The frame list has three words for each slot occurrence": their words.
 abbrev pub FRAMEWORDS : ℕ
-FRAMEWORDS = 25728
+FRAMEWORDS = 3 * FRAMES
 
 -- "`byte` is outside 1 to 1,000": the most ticks that a byte lasts.
 abbrev pub BYTE : ℕ
@@ -75,13 +75,21 @@ BYTES = 64
 abbrev pub TICKS : ℕ
 TICKS = 100000
 
--- "A slot lasts bytes × byte ticks": the longest slot.
-abbrev pub SLOTTICKS : ℕ
-SLOTTICKS = 64000
+-- "`(head 0)`, 0 to 16 bytes" (document 02, point 1): the most bytes that a frame has beside its data.
+abbrev pub HEAD : ℕ
+HEAD = 16
 
--- "a round is the sum of its slots": the longest round.
+-- "a slot lasts (bytes + head) × byte ticks": the longest slot, 80,000 ticks.
+abbrev pub SLOTTICKS : ℕ
+SLOTTICKS = (BYTES + HEAD) * BYTE
+
+-- "a round is the sum of its slots": the longest round, 640,000 ticks.
 abbrev pub ROUNDTICKS : ℕ
-ROUNDTICKS = 512000
+ROUNDTICKS = SLOTS * SLOTTICKS
+
+-- "all ticks added up plus 2 × round × (edges + conditions)": no delay exceeds it, 177,920,000 ticks.
+abbrev pub DELAY : ℕ
+DELAY = PROCESSES * TICKS + 2 * ROUNDTICKS * (EDGES + CONDITIONS)
 
 -- "tick above 999,999,999": the last tick that a table can hold.
 abbrev pub LASTTICK : ℕ
@@ -93,7 +101,7 @@ LASTPLACE = 63
 
 -- A clock is a tick plus 1: the last one at which planning looks for an event. No delay reaches it.
 abbrev pub LASTCLOCK : ℕ
-LASTCLOCK = 1000000000
+LASTCLOCK = LASTTICK + 1
 
 -- A clock that stands for none: no event is left, no process ends, a value never arrives.
 abbrev pub NEVER : ℕ
@@ -101,15 +109,15 @@ NEVER = 2000000000
 
 -- Pass-over counts noted by condition and node, as the condition's value becomes known.
 abbrev pub NOTED : ℕ
-NOTED = 48
+NOTED = CONDITIONS * NODES
 
 -- What is noted of a combination: these, and its last counts by node.
 abbrev pub COMBINATIONNOTES : ℕ
-COMBINATIONNOTES = 56
+COMBINATIONNOTES = NOTED + NODES
 
 -- The same of all combinations.
 abbrev pub NOTES : ℕ
-NOTES = 3584
+NOTES = COMBINATIONS * COMBINATIONNOTES
 
 -- "The text exceeds 16,384 bytes": the most bytes of a plan text.
 abbrev pub TEXT : ℕ
@@ -117,15 +125,15 @@ TEXT = 16384
 
 -- "lending 3,000 entries": the words that the planning program lends for the table.
 abbrev pub PRINTEDWORDS : ℕ
-PRINTEDWORDS = 15000
+PRINTEDWORDS = 5 * 3000
 
 -- "and 2,000 frames": the words that it lends for the frame list.
 abbrev pub PRINTEDFRAMEWORDS : ℕ
-PRINTEDFRAMEWORDS = 6000
+PRINTEDFRAMEWORDS = 3 * 2000
 
 -- The words that hold the frame list of as many entries: an entry is in one frame at most
 abbrev pub ENTRYFRAMEWORDS : ℕ
-ENTRYFRAMEWORDS = 9000
+ENTRYFRAMEWORDS = 3 * 3000
 
 -- The bytes that it lends for a listing: no listing of as many entries has more
 abbrev pub LISTING : ℕ

@@ -1,5 +1,5 @@
-// The limits of document 01 by name, and what follows from them, for code; specs/Limits.antt has the same names for
-// contracts.
+// The limits of documents 01 and 02 by name, and what follows from them, for code; specs/Limits.antt has the same names
+// for contracts, and those that only contracts need.
 // Document 01: "There are not 1 to 8 slots, 1 to 64 processes, at most 6 conditions, at most 128 edges."
 
 // "There are not 1 to 8 slots": the most slots that a plan has.
@@ -38,10 +38,8 @@ pub const BYTE: u32 = 1000;
 pub const BYTES: u32 = 64;
 // "ticks outside 1 to 100,000": the most ticks of a process.
 pub const TICKS: u32 = 100000;
-// "A slot lasts bytes × byte ticks": the longest slot.
-pub const SLOTTICKS: u32 = BYTES * BYTE;
-// "a round is the sum of its slots": the longest round.
-pub const ROUNDTICKS: u32 = 8 * SLOTTICKS;
+// "`(head 0)`, 0 to 16 bytes" (document 02, point 1): the most bytes that a frame has beside its data.
+pub const HEAD: u32 = 16;
 // "tick above 999,999,999": the last tick that a table can hold.
 pub const LASTTICK: u32 = 999999999;
 // "place above 63": the last byte of a frame that an item can begin at.

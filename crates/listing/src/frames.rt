@@ -4,12 +4,12 @@ use listing_bytes::put_labelled;
 use listing_bytes::put_word;
 ghost use Rattle.text_lines.specs.Put.{Put};
 ghost use Rattle.listing_bytes.specs.Fits.{Fits};
-ghost use Rattle.listing_count.specs.Parts.{head-of, frame-of, frames-text};
+ghost use Rattle.listing_count.specs.Parts.{totals-of, frame-of, frames-text};
 
 // Stores the lines of the delay and of the pass-over count.
-pub(crate) fn put_head(out: &mut [u8], at: usize, delay: u32, passed: u32) -> usize
-    requires { ⌜ Fits (now out) at (head-of delay passed) ⌝ }
-    ensures { λ r. ⌜ Put (now (out .entry)) (now (out .exit)) at r (head-of delay passed) ⌝ }
+pub(crate) fn put_totals(out: &mut [u8], at: usize, delay: u32, passed: u32) -> usize
+    requires { ⌜ Fits (now out) at (totals-of delay passed) ⌝ }
+    ensures { λ r. ⌜ Put (now (out .entry)) (now (out .exit)) at r (totals-of delay passed) ⌝ }
 {
     let first = put_labelled(out, at, b"(delay ", delay);
     let second = put_labelled(out, first, b")\n(passed ", passed);

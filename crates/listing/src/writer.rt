@@ -2,7 +2,7 @@
 // Where fewer bytes are lent than such a listing may need it is counted first, with no store, so that refusal 10 leaves
 // the bytes unchanged; then it is stored.
 use crate::frames::put_frames;
-use crate::frames::put_head;
+use crate::frames::put_totals;
 use listing_bytes::put_word;
 use listing_count::digits;
 use listing_count::exceeds;
@@ -19,7 +19,7 @@ ghost use Rattle.plan.specs.Memory.{lines};
 ghost use Rattle.text_lines.specs.Line.{put-on};
 ghost use Rattle.text_lines.specs.Put.{Put};
 ghost use Rattle.listing_bytes.specs.Fits.{Fits};
-ghost use Rattle.listing_count.specs.Parts.{head-of, entries-text, frames-text, listing-of};
+ghost use Rattle.listing_count.specs.Parts.{totals-of, entries-text, frames-text, listing-of};
 ghost use Rattle.listing.specs.Answer.{answer-of, written-of};
 
 // What a listing answers: how many bytes it wrote, or the number of a refusal.
@@ -29,12 +29,12 @@ pub enum Listed {
 }
 
 // The line writer once it has the lines of the delay and of the pass-over count.
-fn head<'a>(w: Writer<'a>, delay: u32, passed: u32) -> Writer<'a>
-    requires { ⌜ Fits (now (w .out)) (w .at) (head-of delay passed) ⌝ }
-    ensures { λ r. ⌜ r ≡ put-on (w .entry) (head-of delay passed) ⌝ }
+fn totals<'a>(w: Writer<'a>, delay: u32, passed: u32) -> Writer<'a>
+    requires { ⌜ Fits (now (w .out)) (w .at) (totals-of delay passed) ⌝ }
+    ensures { λ r. ⌜ r ≡ put-on (w .entry) (totals-of delay passed) ⌝ }
 {
     let at = w.at;
-    let end = put_head(&mut *w.out, at, delay, passed);
+    let end = put_totals(&mut *w.out, at, delay, passed);
     Writer {
         out: w.out,
         at: end,
@@ -90,7 +90,7 @@ fn put_listing<'a>(
 {
     filled(frames(
         entries(
-            head(start(out, 0), delay, passed),
+            totals(start(out, 0), delay, passed),
             processes,
             edges,
             conditions,

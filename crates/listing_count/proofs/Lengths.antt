@@ -12,7 +12,7 @@ use lib.ListN.{length, length-append}
 use Rattle.lists.proofs.Tests.{two}
 use Rattle.model.specs.Text.{text, decimal}
 use Rattle.text_lines.specs.Label.{labelled}
-use Rattle.listing_count.specs.Parts.{values-from, column-of, start-of, item-of, entries-text, frame-of, frames-text, head-of, listing-of}
+use Rattle.listing_count.specs.Parts.{values-from, column-of, start-of, item-of, entries-text, frame-of, frames-text, totals-of, listing-of}
 
 pub false-length : (k : ℕ) → length (labelled " (false " k ++ text ")") ≡ 9 + length (decimal k)
 false-length k = simp length-append (omega arith)
@@ -41,9 +41,9 @@ pub frame-length : (tick node used : ℕ) → length (frame-of tick node used) �
 unfolding frame-of
 frame-length tick node used = simp length-append (omega arith)
 
-pub head-length : (delay passed : ℕ) → length (head-of delay passed) ≡ 19 + length (decimal delay) + length (decimal passed)
-unfolding head-of
-head-length delay passed = simp length-append (omega arith)
+pub totals-length : (delay passed : ℕ) → length (totals-of delay passed) ≡ 19 + length (decimal delay) + length (decimal passed)
+unfolding totals-of
+totals-length delay passed = simp length-append (omega arith)
 
 pub listing-length : (processes edges conditions delay passed : ℕ) (table frames : List ℕ) →
     length (listing-of processes edges conditions delay passed table frames)
@@ -52,13 +52,13 @@ unfolding listing-of
 listing-length processes edges conditions delay passed table frames =
     let es = entries-text processes edges conditions table in
     let fs = frames-text frames in
-    omega (arith, length-append (head-of delay passed) (es ++ fs), length-append es fs, head-length delay passed)
+    omega (arith, length-append (totals-of delay passed) (es ++ fs), length-append es fs, totals-length delay passed)
 
 -- a room of the bytes lent and one more, from which a text's parts are taken: it is used up where the text needs more
 -- bytes than are lent
-pub used-up : (lent head a b : ℕ) → head ≤ lent → ltb (lent - head + 1 - a - b) 1 ≡ ltb lent (head + (a + b))
-used-up lent head a b h = at (two (ltb lent (head + (a + b))))
+pub used-up : (lent totals a b : ℕ) → totals ≤ lent → ltb (lent - totals + 1 - a - b) 1 ≡ ltb lent (totals + (a + b))
+used-up lent totals a b h = at (two (ltb lent (totals + (a + b))))
   where
-    at : (ltb lent (head + (a + b)) ≡ true) ⊎ (ltb lent (head + (a + b)) ≡ false) → ltb (lent - head + 1 - a - b) 1 ≡ ltb lent (head + (a + b))
-    at (inl e) = let l = ltb-true lent (head + (a + b)) e in lt-ltb (lent - head + 1 - a - b) 1 (omega arith) ∙ sym e
-    at (inr e) = let l = ltb-false lent (head + (a + b)) e in le-ltb (lent - head + 1 - a - b) 1 (omega arith) ∙ sym e
+    at : (ltb lent (totals + (a + b)) ≡ true) ⊎ (ltb lent (totals + (a + b)) ≡ false) → ltb (lent - totals + 1 - a - b) 1 ≡ ltb lent (totals + (a + b))
+    at (inl e) = let l = ltb-true lent (totals + (a + b)) e in lt-ltb (lent - totals + 1 - a - b) 1 (omega arith) ∙ sym e
+    at (inr e) = let l = ltb-false lent (totals + (a + b)) e in le-ltb (lent - totals + 1 - a - b) 1 (omega arith) ∙ sym e

@@ -20,7 +20,7 @@ use Rattle.model.specs.Text.{text, decimal, field}
 use Rattle.model.specs.Listing.{bit, value-text, column-text, place-text, entry-line, frame-line, refused-line, passed-lines, listing, words-listing}
 use Rattle.text_lines.specs.Label.{labelled}
 use Rattle.text_lines.proofs.Fields.{field-then}
-use Rattle.listing_count.specs.Parts.{value-at, values-from, column-of, start-of, item-of, entry-of, entry-text, frame-of, frame-text, head-of, listing-of}
+use Rattle.listing_count.specs.Parts.{value-at, values-from, column-of, start-of, item-of, entry-of, entry-text, frame-of, frame-text, totals-of, listing-of}
 
 -- a bit is 1 where it is not 0
 odd : (m : ℕ) → eqb (m % 2) 1 ≡ not (eqb (m % 2) 0)
@@ -146,9 +146,9 @@ refused-parts n = ap (λ (s : List ℕ). text "(refused " ++ s) (append-assoc (d
 pub refused-length : (n : ℕ) → length (refused-line n) ≡ 11 + length (decimal n)
 refused-length n = omega (arith, ap length (refused-parts n), length-append (labelled "(refused " n) (text ")\n"))
 
-head-same : (delay passed : ℕ) → field "delay" delay ++ text "\n" ++ passed-lines (passed ∷ []) ≡ head-of delay passed
-unfolding passed-lines head-of
-head-same delay passed =
+totals-same : (delay passed : ℕ) → field "delay" delay ++ text "\n" ++ passed-lines (passed ∷ []) ≡ totals-of delay passed
+unfolding passed-lines totals-of
+totals-same delay passed =
     let z : passed + 0 ≡ passed = omega arith in
     regroup (field "delay" delay) (text "\n" ∷ (field "passed" (passed + 0) ++ text "\n") ∷ [])
     ∙ rw (z, append-nil (field "passed" passed ++ text "\n"), field-then "delay" delay, field-then "passed" passed)
@@ -159,5 +159,5 @@ unfolding words-listing listing listing-of
 listing-same p delay passed table frames =
     let es = each (entry-line p) (entries-of table) in
     let fs = each frame-line (frames-of frames) in
-    rw (head-same delay passed, ← each-equal (entry-same p) (entries-of table), ← each-equal frame-same (frames-of frames))
-    (append-assoc (head-of delay passed) es fs)
+    rw (totals-same delay passed, ← each-equal (entry-same p) (entries-of table), ← each-equal frame-same (frames-of frames))
+    (append-assoc (totals-of delay passed) es fs)

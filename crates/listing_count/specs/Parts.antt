@@ -61,13 +61,13 @@ abbrev pub frames-text : List ℕ → List ℕ
 frames-text frames = each frame-text (frames-of frames)
 
 -- the lines of the delay and of the pass-over count
-unfoldable pub head-of : ℕ → ℕ → List ℕ
-head-of delay passed = labelled "(delay " delay ++ (labelled ")\n(passed " passed ++ text ")\n")
+unfoldable pub totals-of : ℕ → ℕ → List ℕ
+totals-of delay passed = labelled "(delay " delay ++ (labelled ")\n(passed " passed ++ text ")\n")
 
 -- the whole listing
 unfoldable pub listing-of : ℕ → ℕ → ℕ → ℕ → ℕ → List ℕ → List ℕ → List ℕ
 listing-of processes edges conditions delay passed table frames =
-    head-of delay passed ++ (entries-text processes edges conditions table ++ frames-text frames)
+    totals-of delay passed ++ (entries-text processes edges conditions table ++ frames-text frames)
 
 -- the most bytes of a listing of so many words, for a plan of at most six conditions: of the first two lines, of each
 -- entry's line and of each frame's line

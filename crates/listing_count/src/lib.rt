@@ -231,10 +231,10 @@ pub fn exceeds<'a>(
     if suffice(lent, conditions, table.len(), frames.len()) {
         return false;
     }
-    let head = 19 + digits(delay) + digits(passed);
-    if lent < head {
+    let totals = 19 + digits(delay) + digits(passed);
+    if lent < totals {
         return true;
     }
-    let room = entries_room(lent - head + 1, processes, edges, conditions, table);
+    let room = entries_room(lent - totals + 1, processes, edges, conditions, table);
     frames_room(room, frames) < 1
 }

@@ -8,9 +8,9 @@ use lib.ListN.{length}
 use Rattle.lists.specs.Lists.{if_then_else_, sum, keep}
 use Rattle.model.specs.Plan.{Lines, Slot, process, edge, decider}
 
--- "A slot lasts bytes × byte ticks"
+-- Document 02, point 1: "a slot lasts (bytes + head) × byte ticks"
 unfoldable pub slot-ticks : Lines → Slot → ℕ
-slot-ticks p s = s .bytes * p .byte
+slot-ticks p s = (s .bytes + p .plan .head) * p .plan .byte
 
 -- "a round is the sum of its slots"
 abbrev pub round : Lines → ℕ

@@ -1,4 +1,4 @@
--- The worked cases of document 01 and some of our own, gathered in tables with one theorem: what the definitions
+-- The worked cases of documents 01 and 02 and some of our own, gathered in tables with one theorem: what the definitions
 -- compute is what is stated. Must-fail edits of a definition are refused here.
 -- Assumes nothing.
 use Prim.Native.Nat.{ℕ, _+_, _*_}
@@ -7,7 +7,7 @@ use mathlib.Core.Bool.{Bool, true, false}
 use mathlib.Core.List.{List, [], _∷_, _++_, map}
 use lib.ListN.{take, set, replicate}
 use Rattle.lists.specs.Lists.{sum}
-use Rattle.model.specs.Plan.{Lines, Pick, by-urgency, by-number, waits-all, waits-any, Slot, Process, Edge, When, always, on}
+use Rattle.model.specs.Plan.{Lines, PlanLine, Pick, by-urgency, by-number, waits-all, waits-any, Slot, Process, Edge, When, always, on, with-head}
 use Rattle.model.specs.Log.{delay, full-ticks}
 use Rattle.model.specs.Planning.{planned}
 use Rattle.model.specs.Refusals.{Refusal, nothing, refused}
@@ -88,12 +88,15 @@ any-of n t = record { node = n; ticks = t; waits = waits-any }
 abbrev pub arc : ℕ → ℕ → ℕ → When → Edge
 arc i j b w = record { from = i; to = j; bytes = b; when = w }
 
+-- a plan line with 0 in the parts that document 02 adds: "document 01's cases have 0 there"
+abbrev pub line : ℕ → Pick → PlanLine
+line byte pick = record { byte = byte; head = 0; pick = pick }
+
 -- S, with the ticks of process 0 and the bytes of the third edge
 abbrev pub S-with : ℕ → ℕ → Lines
 S-with ticks third =
     record {
-      byte = 2;
-      pick = by-urgency;
+      plan = line 2 by-urgency;
       slots = slot 0 2 ∷ slot 1 2 ∷ [];
       processes = all-of 0 ticks ∷ all-of 1 3 ∷ all-of 0 5 ∷ any-of 0 2 ∷ [];
       conditions = 0 ∷ [];
@@ -123,8 +126,7 @@ edited e f v = set words-S (5 * e + f) v
 abbrev pub packing : Lines
 packing =
     record {
-      byte = 1;
-      pick = by-urgency;
+      plan = line 1 by-urgency;
       slots = slot 0 4 ∷ slot 1 1 ∷ [];
       processes = all-of 0 1 ∷ all-of 1 2 ∷ all-of 1 2 ∷ all-of 1 2 ∷ [];
       conditions = [];
@@ -142,17 +144,28 @@ packing-words place =
     ∷ 5 ∷ 0 ∷ 0 ∷ 10 ∷ 0
     ∷ 6 ∷ 0 ∷ 0 ∷ 5 ∷ place ∷ []
 
+-- its table with a head of one byte, with the second message at a place
+abbrev pub headed-packing-words : ℕ → List ℕ
+headed-packing-words place =
+    0 ∷ 0 ∷ 0 ∷ 0 ∷ 0
+    ∷ 1 ∷ 0 ∷ 0 ∷ 12 ∷ 0
+    ∷ 2 ∷ 0 ∷ 0 ∷ 19 ∷ 0
+    ∷ 3 ∷ 0 ∷ 0 ∷ 14 ∷ 0
+    ∷ 4 ∷ 0 ∷ 0 ∷ 7 ∷ 0
+    ∷ 5 ∷ 0 ∷ 0 ∷ 14 ∷ place
+    ∷ 6 ∷ 0 ∷ 0 ∷ 7 ∷ 3 ∷ []
+
 -- byte 1 and slots of two nodes, with no conditions: processes and edges
 abbrev pub plain : Pick → ℕ → ℕ → List Process → List Edge → Lines
-plain pick a b ps es = record { byte = 1; pick = pick; slots = slot 0 a ∷ slot 1 b ∷ []; processes = ps; conditions = []; edges = es }
+plain pick a b ps es = record { plan = line 1 pick; slots = slot 0 a ∷ slot 1 b ∷ []; processes = ps; conditions = []; edges = es }
 
 -- the same with conditions
 abbrev pub deciding : ℕ → ℕ → List Process → List ℕ → List Edge → Lines
-deciding a b ps cs es = record { byte = 1; pick = by-urgency; slots = slot 0 a ∷ slot 1 b ∷ []; processes = ps; conditions = cs; edges = es }
+deciding a b ps cs es = record { plan = line 1 by-urgency; slots = slot 0 a ∷ slot 1 b ∷ []; processes = ps; conditions = cs; edges = es }
 
 -- processes on one node
 abbrev pub one-node : Pick → List Process → Lines
-one-node pick ps = record { byte = 1; pick = pick; slots = slot 0 1 ∷ []; processes = ps; conditions = []; edges = [] }
+one-node pick ps = record { plan = line 1 pick; slots = slot 0 1 ∷ []; processes = ps; conditions = []; edges = [] }
 
 abbrev pub case : Question → Outcome → Case
 case q o = record { asked = q; stated = o }
@@ -160,7 +173,7 @@ case q o = record { asked = q; stated = o }
 -- The starred cases of document 01, in its order.
 abbrev pub starred : List Case
 starred =
-    case (prints S) (list (text "(plan (byte 2) (pick urgency))\n(slot (node 0) (bytes 2))\n(slot (node 1) (bytes 2))\n(process (node 0) (ticks 4) (waits all))\n(process (node 1) (ticks 3) (waits all))\n(process (node 0) (ticks 5) (waits all))\n(process (node 0) (ticks 2) (waits any))\n(condition (process 0))\n(edge (from 0) (to 1) (bytes 1) (when (true 0)))\n(edge (from 0) (to 2) (bytes 1) (when (false 0)))\n(edge (from 1) (to 3) (bytes 2) (when always))\n(edge (from 2) (to 3) (bytes 1) (when always))\n"))
+    case (prints S) (list (text "(plan (byte 2) (head 0) (pick urgency))\n(slot (node 0) (bytes 2))\n(slot (node 1) (bytes 2))\n(process (node 0) (ticks 4) (waits all))\n(process (node 1) (ticks 3) (waits all))\n(process (node 0) (ticks 5) (waits all))\n(process (node 0) (ticks 2) (waits any))\n(condition (process 0))\n(edge (from 0) (to 1) (bytes 1) (when (true 0)))\n(edge (from 0) (to 2) (bytes 1) (when (false 0)))\n(edge (from 1) (to 3) (bytes 2) (when always))\n(edge (from 2) (to 3) (bytes 1) (when always))\n"))
     ∷ case (lists S) (list (text "(delay 34)\n(passed 0)\n(start 0 (when) (at 0))\n(start 1 (when (true 0)) (at 20))\n(start 2 (when (false 0)) (at 12))\n(start 3 (when (false 0)) (at 17))\n(start 3 (when (true 0)) (at 32))\n(send 0 (when (true 0)) (at 16) (place 0))\n(send 2 (when (true 0)) (at 28) (place 0))\n(tell 0 (when) (at 8) (place 0))\n(frame 8 (node 0) (bytes 1))\n(frame 16 (node 0) (bytes 1))\n(frame 28 (node 1) (bytes 2))\n"))
     ∷ case (worst (S-with 8 2)) (number 34)
     ∷ case (worst (S-with 9 2)) (number 42)
@@ -234,8 +247,8 @@ answers =
     -- buffers: a refusal leaves them, an accepted call leaves the words beyond its output
     ∷ case (leaves (one-node by-urgency (all-of 0 7 ∷ [])) (9 ∷ 9 ∷ 9 ∷ 9 ∷ []) (8 ∷ [])) (list (9 ∷ 9 ∷ 9 ∷ 9 ∷ 8 ∷ []))
     ∷ case (leaves (one-node by-urgency (all-of 0 7 ∷ [])) (9 ∷ 9 ∷ 9 ∷ 9 ∷ 9 ∷ 9 ∷ []) (8 ∷ [])) (list (0 ∷ 0 ∷ 0 ∷ 0 ∷ 0 ∷ 9 ∷ 8 ∷ []))
-    ∷ case (writes S 464) (number 0)
-    ∷ case (writes S 463) (number 10)
+    ∷ case (writes S 473) (number 0)
+    ∷ case (writes S 472) (number 10)
     -- a listing in lent bytes, of which there are enough, one too few, and none for a plan that 9 refuses
     ∷ case (lists-in S 392) (number 0)
     ∷ case (lists-in S 391) (number 10)
@@ -263,6 +276,27 @@ answers =
     ∷ case (starts S (edited 7 3 0) (false ∷ []) (4 ∷ 3 ∷ 5 ∷ 2 ∷ []) 2) (list [])
     ∷ []
 
+-- Document 02, point 1: "Frames have a head and a tail." "S with head 0 prints the listing of document 01" (case 2 of
+-- `starred`), "and for other heads tables are compared with the planning rules over the longer slots."
+abbrev pub heads : List Case
+heads =
+    -- S and the packing case with a head of one byte: slots are longer, and a head takes no place in a frame; two slots of
+    -- one byte with a head of 16: a message ready at 1 goes in the frame of 34, and arrives at 51
+    case (lists (with-head S 1)) (list (text "(delay 50)\n(passed 0)\n(start 0 (when) (at 0))\n(start 1 (when (true 0)) (at 30))\n(start 2 (when (false 0)) (at 18))\n(start 3 (when (false 0)) (at 23))\n(start 3 (when (true 0)) (at 48))\n(send 0 (when (true 0)) (at 24) (place 0))\n(send 2 (when (true 0)) (at 42) (place 0))\n(tell 0 (when) (at 12) (place 0))\n(frame 12 (node 0) (bytes 1))\n(frame 24 (node 0) (bytes 1))\n(frame 42 (node 1) (bytes 2))\n"))
+    ∷ case (lists (with-head packing 1)) (list (text "(delay 21)\n(passed 1)\n(start 0 (when) (at 0))\n(start 1 (when) (at 12))\n(start 2 (when) (at 19))\n(start 3 (when) (at 14))\n(send 0 (when) (at 7) (place 0))\n(send 1 (when) (at 14) (place 0))\n(send 2 (when) (at 7) (place 3))\n(frame 7 (node 0) (bytes 4))\n(frame 14 (node 0) (bytes 2))\n"))
+    ∷ case (lists (with-head (plain by-urgency 1 1 (all-of 0 1 ∷ all-of 1 1 ∷ []) (arc 0 1 1 always ∷ [])) 16))
+    (list (text "(delay 52)\n(passed 0)\n(start 0 (when) (at 0))\n(start 1 (when) (at 51))\n(send 0 (when) (at 34) (place 0))\n(frame 34 (node 0) (bytes 1))\n"))
+    -- 3 of the plan line: a head of 16 bytes and of 17; 9 goes by the data, whatever the head
+    ∷ case (writes (with-head S 16) 0) (number 10)
+    ∷ case (writes (with-head S 17) 0) (number 3)
+    ∷ case (writes (with-head (S-with 4 3) 16) 0) (number 9)
+    -- the table of the packing case with a head: at place 0, and passing the slot's data by as much as the head; without the
+    -- head its ticks are no beginnings of the slot
+    ∷ case (checks (with-head packing 1) (headed-packing-words 0) 21) (number 0)
+    ∷ case (checks (with-head packing 1) (headed-packing-words 3) 21) (number 19)
+    ∷ case (checks packing (headed-packing-words 0) 21) (number 17)
+    ∷ []
+
 abbrev pub Hold : List Case → Type 0
 Hold cases = map (λ x. outcome (x .asked)) cases ≡ map (λ x. x .stated) cases
 
@@ -277,3 +311,7 @@ planning-hold = refl
 pub answers-hold : Hold answers
 unfolding computing
 answers-hold = refl
+
+pub heads-hold : Hold heads
+unfolding computing
+heads-hold = refl

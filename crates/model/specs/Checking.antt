@@ -92,7 +92,8 @@ run-together p x y =
 unfoldable pub overlap : Lines → List Entry → List Bool → Bool
 overlap p es c = let log : Log = keep (λ x. is-process p (x .row)) (met-log es c) in any (λ x. any (run-together p x) log) log
 
--- 19: "Two items of a frame share a byte, or one passes the slot's last byte."
+-- 19: "Two items of a frame share a byte, or one passes the slot's last byte", of the slot's data: "Capacity and places
+-- still count data only" (document 02, point 1).
 unfoldable pub past-end : Lines → Placed → Bool
 past-end p x = ltb (slot-of p (row-node p (x .row)) .bytes) (x .place + row-bytes p (x .row))
 

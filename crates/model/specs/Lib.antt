@@ -1,4 +1,4 @@
--- The definitions of document 01. A reader who follows the document reads the files in this order.
+-- The definitions of documents 01 and 02. A reader who follows document 01 reads the files in this order.
 pub mod Plan
 pub mod Activity
 pub mod Bus

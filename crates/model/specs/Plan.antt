@@ -35,16 +35,32 @@ pub record Edge : Type 0 where
   pub bytes : ℕ
   pub when : When
 
--- "There is one plan line; slots stand in bus order." `byte` is "ticks per byte on the bus". A condition is the process
--- that it names.
+-- "There is one plan line". `byte` is "ticks per byte on the bus". Document 02, point 1: "The plan line gains `(head 0)`,
+-- 0 to 16 bytes, after byte": `head` is what a frame has beside its data, "start of frame, control field and CRC".
+pub record PlanLine : Type 0 where
+  pub byte : ℕ
+  pub head : ℕ
+  pub pick : Pick
+
+-- "slots stand in bus order." A condition is the process that it names.
 -- "Two plans in memory are the same if the lines they stand for are."
 pub record Lines : Type 0 where
-  pub byte : ℕ
-  pub pick : Pick
+  pub plan : PlanLine
   pub slots : List Slot
   pub processes : List Process
   pub conditions : List ℕ
   pub edges : List Edge
+
+-- the same lines with another head
+abbrev pub with-head : Lines → ℕ → Lines
+with-head p head =
+    record {
+      plan = record { byte = p .plan .byte; head = head; pick = p .plan .pick };
+      slots = p .slots;
+      processes = p .processes;
+      conditions = p .conditions;
+      edges = p .edges;
+    }
 
 -- "Processes, conditions and edges are numbered from 0 in the order they stand." A number that the plan lacks has an
 -- empty line.

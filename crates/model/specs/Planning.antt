@@ -30,7 +30,7 @@ weights-by p by-urgency = urgencies p
 weights-by p by-number = []
 
 unfoldable pub weights : Lines → List ℕ
-weights p = weights-by p (p .pick)
+weights p = weights-by p (p .plan .pick)
 
 -- the processes in the order in which a free node picks, and the edges in the order in which a slot takes their
 -- messages: "by urgency of the receiver, highest first, ties to the lower edge number (pick number: edge number alone)"
@@ -111,6 +111,7 @@ pack p size t at [] = []
 pack p size t at (r ∷ rs) =
     elim (leb (at + row-bytes p r) size) [ true ↦ record { row = r; tick = t; place = at } ∷ pack p size t (at + row-bytes p r) rs | false ↦ pack p size t at rs ]
 
+-- what a slot that begins takes. Document 02, point 1: "Capacity and places still count data only."
 unfoldable pub takes : Lines → View → ℕ → Slot → Log
 takes p v t s = pack p (s .bytes) t 0 (pending p v (s .node))
 

@@ -6,7 +6,7 @@ use mathlib.Core.List.{List, [], _∷_, map}
 use lib.Dec.{eqb, leb, ltb}
 use lib.ListN.{length}
 use Rattle.lists.specs.Lists.{any, repeated}
-use Rattle.model.specs.Plan.{Lines, Slot, Process, Edge, When, always, on, process, edge, decider, edges, local}
+use Rattle.model.specs.Plan.{Lines, PlanLine, Slot, Process, Edge, When, always, on, process, edge, decider, edges, local}
 use Rattle.model.specs.Bus.{slot-of}
 
 -- "A refusal yields its number only".
@@ -33,7 +33,11 @@ unfoldable pub wrong-counts : Lines → Bool
 wrong-counts p =
     outside 1 8 (length (p .slots)) || outside 1 64 (length (p .processes)) || ltb 6 (length (p .conditions)) || ltb 128 (length (p .edges))
 
--- 3: "`byte` is outside 1 to 1,000, slot or edge bytes outside 1 to 64, or ticks outside 1 to 100,000."
+-- 3: "`byte` is outside 1 to 1,000, slot or edge bytes outside 1 to 64, or ticks outside 1 to 100,000." Document 02,
+-- point 1, of `head`: "Figures above 16 meet refusal 3."
+unfoldable pub wrong-plan : PlanLine → Bool
+wrong-plan l = outside 1 1000 (l .byte) || ltb 16 (l .head)
+
 unfoldable pub wrong-slot : Slot → Bool
 wrong-slot s = outside 1 64 (s .bytes)
 
@@ -44,7 +48,7 @@ unfoldable pub wrong-ticks : Process → Bool
 wrong-ticks q = outside 1 100000 (q .ticks)
 
 unfoldable pub wrong-sizes : Lines → Bool
-wrong-sizes p = outside 1 1000 (p .byte) || any wrong-slot (p .slots) || any wrong-edge (p .edges) || any wrong-ticks (p .processes)
+wrong-sizes p = wrong-plan (p .plan) || any wrong-slot (p .slots) || any wrong-edge (p .edges) || any wrong-ticks (p .processes)
 
 -- 4: "A node number is not below the slot count, or two slots share a node."
 unfoldable pub no-node : Lines → ℕ → Bool
@@ -78,7 +82,8 @@ undecided p i (on v k) = leb (length (p .conditions)) k || not (eqb (decider p k
 unfoldable pub wrong-when : Lines → Edge → Bool
 wrong-when p e = undecided p (e .from) (e .when)
 
--- 9: "A message between nodes is longer than its sender's slot."
+-- 9: "A message between nodes is longer than its sender's slot", of which "Capacity .. still count[s] data only"
+-- (document 02, point 1).
 unfoldable pub too-long : Lines → ℕ → Bool
 too-long p e = not (local p e) && ltb (slot-of p (process p (edge p e .from) .node) .bytes) (edge p e .bytes)
 

@@ -12,7 +12,7 @@ use lib.Dec.{ltb}
 use lib.ListN.{length}
 use Rattle.lists.specs.Lists.{all, each}
 use Rattle.lists.specs.Front.{front}
-use Rattle.model.specs.Plan.{Lines, Pick, by-urgency, by-number, Waits, waits-all, waits-any, Slot, Process, Edge, When, always, on}
+use Rattle.model.specs.Plan.{Lines, PlanLine, Pick, by-urgency, by-number, Waits, waits-all, waits-any, Slot, Process, Edge, When, always, on}
 use Rattle.model.specs.Refusals.{Refusal, nothing, refused, sentence, or-else, plan-refusal}
 
 -- the bytes of a text
@@ -60,13 +60,21 @@ edge-line e =
     text "(edge " ++ field "from" (e .from) ++ text " " ++ field "to" (e .to) ++ text " " ++ field "bytes" (e .bytes)
     ++ text " (when " ++ when-text (e .when) ++ text "))\n"
 
-unfoldable pub plan-line : ℕ → Pick → List ℕ
-plan-line byte pick = text "(plan " ++ field "byte" byte ++ text " " ++ pick-text pick ++ text ")\n"
+-- Document 02, point 1: "The plan line gains `(head 0)`, .. after byte".
+unfoldable pub plan-line : PlanLine → List ℕ
+plan-line l =
+    text "(plan " ++ field "byte" (l .byte) ++ text " " ++ field "head" (l .head) ++ text " " ++ pick-text (l .pick)
+    ++ text ")\n"
+
+-- the plan line as document 01 has it: "A plan text without a part that this or a later point adds is no longer of the
+-- form"
+abbrev pub headless-line : ℕ → Pick → List ℕ
+headless-line byte pick = text "(plan " ++ field "byte" byte ++ text " " ++ pick-text pick ++ text ")\n"
 
 -- "Line kinds stand in the order of this example".
 unfoldable pub print : Lines → List ℕ
 print p =
-    plan-line (p .byte) (p .pick) ++ each slot-line (p .slots) ++ each process-line (p .processes) ++ each condition-line (p .conditions) ++ each edge-line (p .edges)
+    plan-line (p .plan) ++ each slot-line (p .slots) ++ each process-line (p .processes) ++ each condition-line (p .conditions) ++ each edge-line (p .edges)
 
 -- "numbers have one to nine decimal digits": all the numbers of some lines
 unfoldable pub short : ℕ → Bool
@@ -75,6 +83,9 @@ short n = ltb n 1000000000
 unfoldable pub when-numbers : When → List ℕ
 when-numbers always = []
 when-numbers (on v k) = k ∷ []
+
+abbrev pub plan-numbers : PlanLine → List ℕ
+plan-numbers l = l .byte ∷ l .head ∷ []
 
 abbrev pub slot-numbers : Slot → List ℕ
 slot-numbers s = s .node ∷ s .bytes ∷ []
@@ -90,7 +101,7 @@ edge-numbers e = e .from ∷ e .to ∷ e .bytes ∷ when-numbers (e .when)
 
 unfoldable pub numbers : Lines → List ℕ
 numbers p =
-    (p .byte ∷ [])
+    plan-numbers (p .plan)
     ++ each slot-numbers (p .slots)
     ++ each process-numbers (p .processes)
     ++ each condition-numbers (p .conditions)

@@ -16,11 +16,11 @@ use Rattle.lists.proofs.Marks.{repeated-earlier}
 use Rattle.lists.proofs.Places.{list-below, any-places, repeated-places}
 use Rattle.model.specs.Plan.{Slot, Edge, When, always, on, process, edge, decider, edges}
 use Rattle.model.specs.Bus.{slot-among, slot-of}
-use Rattle.model.specs.Refusals.{outside, wrong-counts, wrong-slot, wrong-edge, wrong-ticks, wrong-sizes, no-node, wrong-nodes, no-process, wrong-deciders, wrong-ends, twin-edges, undecided, wrong-when, too-long}
+use Rattle.model.specs.Refusals.{outside, wrong-counts, wrong-plan, wrong-slot, wrong-edge, wrong-ticks, wrong-sizes, no-node, wrong-nodes, no-process, wrong-deciders, wrong-ends, twin-edges, undecided, wrong-when, too-long}
 use Rattle.plan.specs.declared.When as w
 use Rattle.plan.specs.declared.When.the-variants.{Always, True, False}
 use Rattle.plan.specs.declared.Plan.{Plan}
-use Rattle.plan.specs.Memory.{when-of, process-of, edge-of, no-slot, no-edge, counted, lines}
+use Rattle.plan.specs.Memory.{line-of, when-of, process-of, edge-of, no-slot, no-edge, counted, lines}
 use Rattle.plan.specs.Memory as memory
 use Rattle.plan.specs.Kinds.{kind-of, condition-of}
 use Rattle.plan.specs.Tables.{kind-number, condition-number, slots-table, processes-table, edges-table}
@@ -171,7 +171,7 @@ module _ (p : Plan) where
 
     -- 3
     pub sizes-same :
-        sizes-test (p .byte) (slots-table p .bytes) (p .slots) (edges-table p .bytes) (p .edges) (processes-table p .ticks) (p .processes) ≡ wrong-sizes (lines p)
+        sizes-test (line-of (p .line)) (slots-table p .bytes) (p .slots) (edges-table p .bytes) (p .edges) (processes-table p .ticks) (p .processes) ≡ wrong-sizes (lines p)
     unfolding lines sizes-test outside-at wrong-sizes wrong-slot wrong-edge wrong-ticks
     sizes-same =
         let a = any-places (record { node = 0; bytes = 0 }) (lines p .slots) (p .slots) slots-length wrong-slot (outside-at (slots-table p .bytes) 1 64)
@@ -179,7 +179,7 @@ module _ (p : Plan) where
         let b = over-edges wrong-edge (outside-at (edges-table p .bytes) 1 64) (λ i. ap (outside 1 64) (edge-bytes i)) in
         let c = any-places _ (lines p .processes) (p .processes) processes-length wrong-ticks (outside-at (processes-table p .ticks) 1 100000)
         (λ i l. ap (outside 1 100000) (process-ticks i)) in
-        λ j. outside 1 1000 (p .byte) || a j || b j || c j
+        λ j. wrong-plan (line-of (p .line)) || a j || b j || c j
 
     -- 4
     pub nodes-same : nodes-test (slots-table p .node) (p .slots) (processes-table p .node) (p .processes) ≡ wrong-nodes (lines p)

@@ -13,6 +13,7 @@ use Rattle.plan.specs.declared.Waits.{Waits}
 use Rattle.plan.specs.declared.Waits.the-variants.{All, Any}
 use Rattle.plan.specs.declared.When.{When}
 use Rattle.plan.specs.declared.When.the-variants.{Always, True, False}
+use Rattle.plan.specs.declared.PlanLine.{PlanLine}
 use Rattle.plan.specs.declared.Slot.{Slot}
 use Rattle.plan.specs.declared.Process.{Process}
 use Rattle.plan.specs.declared.Edge.{Edge}
@@ -31,6 +32,9 @@ abbrev pub when-of : When → m.When
 when-of Always = always
 when-of (True k) = on true k
 when-of (False k) = on false k
+
+abbrev pub line-of : PlanLine → m.PlanLine
+line-of l = record { byte = l .byte; head = l .head; pick = pick-of (l .pick) }
 
 abbrev pub slot-of : Slot → m.Slot
 slot-of s = record { node = s .node; bytes = s .bytes }
@@ -76,8 +80,7 @@ counted f d n xs = map (λ i. f (getD xs i d)) (below n)
 unfoldable pub lines : Plan → Lines
 lines p =
     record {
-      byte = p .byte;
-      pick = pick-of (p .pick);
+      plan = line-of (p .line);
       slots = counted slot-of no-slot (p .slots) (p .slot);
       processes = counted process-of no-process (p .processes) (p .process);
       conditions = counted (λ i. i) 0 (p .conditions) (p .condition);
@@ -88,8 +91,7 @@ lines p =
 abbrev pub empty-plan : Plan
 empty-plan =
     record {
-      byte = 0;
-      pick = Urgency;
+      line = record { byte = 0; head = 0; pick = Urgency };
       slots = 0;
       slot = replicate 8 no-slot;
       processes = 0;

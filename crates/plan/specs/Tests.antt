@@ -7,7 +7,8 @@ use lib.Dec.{eqb, leb, ltb}
 use lib.ListN.{getD}
 use Rattle.limits.specs.Limits.{TICKS}
 use Rattle.lists.specs.Lists.{if_then_else_, any, below, earlier}
-use Rattle.model.specs.Refusals.{outside}
+use Rattle.model.specs.Plan.{PlanLine}
+use Rattle.model.specs.Refusals.{outside, wrong-plan}
 
 -- number i of an array
 abbrev pub at : List ℕ → ℕ → ℕ
@@ -22,9 +23,9 @@ unfoldable pub outside-at : List ℕ → ℕ → ℕ → ℕ → Bool
 outside-at xs lo hi i = outside lo hi (at xs i)
 
 -- 3
-unfoldable pub sizes-test : ℕ → List ℕ → ℕ → List ℕ → ℕ → List ℕ → ℕ → Bool
-sizes-test byte slot slots edge edges ticks processes =
-    outside 1 1000 byte || any (outside-at slot 1 64) (below slots) || any (outside-at edge 1 64) (below edges) || any (outside-at ticks 1 TICKS) (below processes)
+unfoldable pub sizes-test : PlanLine → List ℕ → ℕ → List ℕ → ℕ → List ℕ → ℕ → Bool
+sizes-test line slot slots edge edges ticks processes =
+    wrong-plan line || any (outside-at slot 1 64) (below slots) || any (outside-at edge 1 64) (below edges) || any (outside-at ticks 1 TICKS) (below processes)
 
 -- number i of an array is not below a bound
 unfoldable pub not-below-at : List ℕ → ℕ → ℕ → Bool

@@ -1,15 +1,19 @@
-// Tests of refusals 2 to 9 on the counts of a plan, on one number, and on one `when` or message.
+// Tests of refusals 2 to 9 on the counts of a plan, on one number, on the plan line, and on one `when` or message.
+use crate::PlanLine;
 use crate::SlotTable;
 use arrays::wide;
+use limits::BYTE;
 use limits::CONDITIONS;
 use limits::EDGES;
+use limits::HEAD;
 use limits::PROCESSES;
 use limits::SLOTS;
 ghost use mathlib.Core.Path.{_≡_};
 ghost use Prim.Native.Nat.{_≤_};
 ghost use Rattle.limits.specs.Limits.{NODES, CONDITIONS};
 ghost use Rattle.lists.specs.Lists.{below};
-ghost use Rattle.model.specs.Refusals.{outside};
+ghost use Rattle.model.specs.Refusals.{outside, wrong-plan};
+ghost use Rattle.plan.specs.Memory.{line-of};
 ghost use Rattle.plan.specs.Tests.{counts-test, undecided-by, slot-bytes, longer};
 
 // There are not 1 to 8 slots, 1 to 64 processes, at most 6 conditions and at most 128 edges.
@@ -35,13 +39,23 @@ pub fn wrong_counts(slots: usize, processes: usize, conditions: usize, edges: us
 }
 
 // x is outside lo to hi.
-pub fn is_outside(x: u32, lo: u32, hi: u32) -> bool
+pub(crate) fn is_outside(x: u32, lo: u32, hi: u32) -> bool
     ensures { λ r. ⌜ r ≡ outside lo hi x ⌝ }
 {
     if x < lo {
         return true;
     }
     hi < x
+}
+
+// `byte` is outside 1 to 1,000, or `head` above 16.
+pub fn wrong_plan_line(line: PlanLine) -> bool
+    ensures { λ r. ⌜ r ≡ wrong-plan (line-of line) ⌝ }
+{
+    if is_outside(line.byte, 1, BYTE) {
+        return true;
+    }
+    HEAD < line.head
 }
 
 // A `when` of this kind names a condition that process `from` does not decide.

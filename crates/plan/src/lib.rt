@@ -12,9 +12,9 @@ pub use any_tests::any_repeat;
 pub use any_tests::any_twice;
 pub use any_tests::any_unordered;
 pub use fields::is_longer;
-pub use fields::is_outside;
 pub use fields::is_undecided;
 pub use fields::wrong_counts;
+pub use fields::wrong_plan_line;
 use limits::CONDITIONS;
 use limits::EDGES;
 use limits::PROCESSES;
@@ -47,6 +47,13 @@ pub enum When {
     False(u32),
 }
 
+// The plan line: `byte` is "ticks per byte on the bus", and `head` the bytes that a frame has beside its data.
+pub struct PlanLine {
+    pub byte: u32,
+    pub head: u32,
+    pub pick: Pick,
+}
+
 pub struct Slot {
     pub node: u32,
     pub bytes: u32,
@@ -68,8 +75,7 @@ pub struct Edge {
 // A plan: `slots` is how many of the array `slot` are the plan's, and so on. A count above its array stands for as many
 // lines, of which refusal 2 then finds too many.
 pub struct Plan {
-    pub byte: u32,
-    pub pick: Pick,
+    pub line: PlanLine,
     pub slots: usize,
     pub slot: [Slot; SLOTS],
     pub processes: usize,
@@ -80,10 +86,15 @@ pub struct Plan {
     pub edge: [Edge; EDGES],
 }
 
-// The plan to start from: no lines but the plan line, with `byte` 0.
+// The plan to start from: no lines but the plan line, with `byte` and `head` 0.
 pub fn empty() -> Plan
     ensures { λ r. ⌜ r ≡ empty-plan ⌝ }
 {
+    let line = PlanLine {
+        byte: 0,
+        head: 0,
+        pick: Pick::Urgency,
+    };
     let s = Slot { node: 0, bytes: 0 };
     let q = Process {
         node: 0,
@@ -101,8 +112,7 @@ pub fn empty() -> Plan
     let condition = [0u32; CONDITIONS];
     let edge = [e; EDGES];
     Plan {
-        byte: 0,
-        pick: Pick::Urgency,
+        line,
         slots: 0,
         slot,
         processes: 0,

@@ -3,7 +3,7 @@
 -- Assumes nothing.
 use mathlib.Core.Path.{_≡_, refl, _∙_}
 use mathlib.Core.Logic.{_⊎_, inl, inr}
-use mathlib.Core.Bool.{Bool, true, false, _||_}
+use mathlib.Core.Bool.{Bool, true, false}
 use mathlib.Core.List.{List}
 use Prim.Native.Nat.{ℕ, _≤_, _<_}
 use native.Mathlib.Omega.{arith}
@@ -11,12 +11,11 @@ use lib.Dec.{ltb}
 use lib.ListN.{length, getD, List·getD-eq-default}
 use borrow.Author.Tests.{ltb-true, ltb-false}
 use Rattle.lists.specs.Lists.{any, fill}
-use Rattle.lists.proofs.Tests.{two, neither}
-use Rattle.lists.proofs.Members.{none-at}
+use Rattle.lists.proofs.Tests.{two}
 use Rattle.lists.proofs.Fill.{fill-at, fill-all}
 use Rattle.model.specs.Plan.{Process, Edge, Waits, waits-all, waits-any, When, always, on, process, edge, decider}
-use Rattle.model.specs.Refusals.{outside, nothing, wrong-counts, wrong-slot, wrong-edge, wrong-ticks, wrong-sizes, plan-refusal}
-use Rattle.laws.proofs.Good.{Good, pass, good}
+use Rattle.model.specs.Refusals.{nothing, plan-refusal}
+use Rattle.laws.proofs.Good.{Good, good}
 use Rattle.plan.specs.declared.Waits.the-variants.{All, Any}
 use Rattle.plan.specs.declared.Plan.{Plan}
 use Rattle.plan.specs.declared.tables.ProcessTable.{ProcessTable}
@@ -98,20 +97,8 @@ module _ (p : Plan) (h : plan-refusal (lines p) ≡ nothing) where
   pub to-small : (e : ℕ) → at (edges-table p .to) e < 64
   to-small e = rw (edge-to p few e) (each-edge (λ x. x .to < 64) (λ e l. omega (arith, facts .to-in e l, facts .few-processes)) (omega arith) e)
 
-  edge-most : (e : ℕ) → e < length (lines p .edges) → edge (lines p) e .bytes ≤ 64
-  unfolding plan-refusal wrong-sizes wrong-edge outside
-  edge-most e l =
-      let none : Edge = record { from = 0; to = 0; bytes = 0; when = always } in
-      let s2 = pass 2 (wrong-counts (lines p)) _ h in
-      let s3 = pass 3 (wrong-sizes (lines p)) _ (s2 .1) in
-      let early : Bool = outside 1 1000 (lines p .byte) || any wrong-slot (lines p .slots) in
-      let sized : Bool = any wrong-edge (lines p .edges) in
-      let a = neither early sized (neither (early || sized) (any wrong-ticks (lines p .processes)) (s3 .0) .0) in
-      let x : ℕ = edge (lines p) e .bytes in
-      ltb-false 64 x (neither (ltb x 1) (ltb 64 x) (none-at wrong-edge (lines p .edges) e none (a .1) l) .1)
-
   pub bytes-small : (e : ℕ) → at (edges-table p .bytes) e ≤ 64
-  bytes-small e = rw (edge-bytes p few e) (each-edge (λ x. x .bytes ≤ 64) edge-most (omega arith) e)
+  bytes-small e = rw (edge-bytes p few e) (each-edge (λ x. x .bytes ≤ 64) (facts .edge-most) (omega arith) e)
 
   pub names-small : (e : ℕ) → at (edges-table p .condition) e < 6
   names-small e =

@@ -3,26 +3,23 @@
 use mathlib.Core.Path.{_≡_, refl, sym, ap, _∙_, subst}
 use mathlib.Core.Logic.{_⊎_, inl, inr}
 use mathlib.Core.Bool.{Bool, true, false, not, _&&_}
-use mathlib.Core.List.{List, [], map, List·Memᴰ as In}
-use Prim.Native.Nat.{ℕ, suc, _+_, _-_, _*_, _^_, _≤_, _<_}
-use native.Mathlib.Nat.{mul-le-mul}
+use mathlib.Core.List.{List, [], List·Memᴰ as In}
+use Prim.Native.Nat.{ℕ, suc, _+_, _-_, _^_, _≤_, _<_}
 use native.Mathlib.Omega.{arith}
 use lib.Dec.{eqb, ltb}
-use lib.ListN.{length, getD, length-map}
-use borrow.Author.Tests.{ltb-true, ltb-false, leb-false, eq-eqb}
+use lib.ListN.{length, getD}
+use borrow.Author.Tests.{ltb-true, ltb-false, eq-eqb}
+use Rattle.limits.specs.Limits.{SLOTTICKS}
 use Rattle.lists.specs.Lists.{if_then_else_, any, null, fill}
-use Rattle.lists.proofs.Tests.{two, neither}
-use Rattle.lists.proofs.Members.{none-in, map-in}
-use Rattle.lists.proofs.Different.{all-there}
+use Rattle.lists.proofs.Tests.{two}
 use Rattle.lists.proofs.Fill.{fill-at, fill-each, fill-all}
 use Rattle.model.specs.Plan.{Slot, Waits, waits-all, waits-any, process, edge, decider, into, local, unit}
 use Rattle.model.specs.Activity.{combinations, says-any, conjunction}
-use Rattle.model.specs.Bus.{slot-ticks, slot-of, rows, sender, row-node, row-bytes, transit}
+use Rattle.model.specs.Bus.{slot-of, rows, sender, row-node, row-bytes, transit}
 use Rattle.model.specs.Log.{full-ticks, span}
 use Rattle.model.specs.Planning.{dispatch-order, queue}
-use Rattle.model.specs.Refusals.{nothing, wrong-counts, wrong-sizes, no-node, wrong-nodes, plan-refusal}
-use Rattle.laws.proofs.Good.{pass}
-use Rattle.laws.proofs.Slots.{slot-ticks-one, slot-own}
+use Rattle.model.specs.Refusals.{nothing, plan-refusal}
+use Rattle.laws.proofs.Slots.{slot-ticks-one, slot-ticks-most, slot-own}
 use Rattle.laws.proofs.Rows.{sender-in, full-tick, process-span, item-span}
 use Rattle.plan.specs.declared.Plan.{Plan}
 use Rattle.plan.specs.Memory.{lines}
@@ -198,26 +195,9 @@ module _ (p : Plan) (h : plan-refusal (lines p) ≡ nothing) where
 
   -- the slots
   slot-there : (n : ℕ) → n < length (lines p .slots) → In (slot-of (lines p) n) (lines p .slots)
-  unfolding plan-refusal wrong-nodes no-node
   slot-there n l =
-      let s2 = pass 2 (wrong-counts (lines p)) _ h in
-      let s3 = pass 3 (wrong-sizes (lines p)) _ (s2 .1) in
-      let s4 = pass 4 (wrong-nodes (lines p)) _ (s3 .1) in
-      let a = neither _ _ (neither _ _ (s4 .0) .0) in
-      let nodes : List ℕ = map (λ (s : Slot). s .node) (lines p .slots) in
-      let bounded : (x : ℕ) → In x nodes → x < length (lines p .slots) =
-      λ x i.
-      let r = map-in (λ (s : Slot). s .node) (lines p .slots) i in
-      rw (r .2) (leb-false _ _ (none-in (λ (s : Slot). no-node (lines p) (s .node)) (a .0) (r .1))) in
-      let i = all-there (length (lines p .slots)) nodes (facts p h .one-slot) bounded (omega (arith, length-map (lines p .slots) (λ (s : Slot). s .node))) n l in
-      let r = map-in (λ (s : Slot). s .node) (lines p .slots) i in
-      subst (λ (s : Slot). In s (lines p .slots)) (sym (slot-own (lines p) (facts p h) (r .0) (r .1)) ∙ ap (slot-of (lines p)) (sym (r .2))) (r .1)
-
-  slot-most : (n : ℕ) → n < length (lines p .slots) → slot-ticks (lines p) (slot-of (lines p) n) ≤ 64000
-  unfolding slot-ticks
-  slot-most n l =
-      let k : slot-of (lines p) n .bytes * lines p .byte ≤ 64 * 1000 = mul-le-mul (facts p h .slot-most (slot-of (lines p) n) (slot-there n l)) (facts p h .byte-most) in
-      omega arith
+      let r = facts p h .slot-there n l in
+      subst (λ (s : Slot). In s (lines p .slots)) (sym (slot-own (lines p) (facts p h) (r .0) (r .1)) ∙ ap (slot-of (lines p)) (r .2)) (r .1)
 
   module _ (o : Orders) (w : Ordered (lines p) o) where
     pub as-any-at : (i : ℕ) → i < p .processes → as-any-of (at (processes-table p .any) i) (at (o .intofirst) i) (at (o .intofirst) (i + 1)) ≡ if conjunction (lines p) i then 1 else 0
@@ -240,8 +220,8 @@ module _ (p : Plan) (h : plan-refusal (lines p) ≡ nothing) where
     leading i l = part-same (o .intofirst) (o .into) i (into (lines p) i) (w .into i l) (w .into-long)
 
     module _ (t : Timetable) (m : Timed (lines p) t) where
-      lasts-most : (n : ℕ) → n < length (lines p .slots) → at (t .ticks) n ≤ 64000
-      lasts-most n l = omega (arith, m .lasts n l, slot-most n l)
+      lasts-most : (n : ℕ) → n < length (lines p .slots) → at (t .ticks) n ≤ SLOTTICKS
+      lasts-most n l = omega (arith, m .lasts n l, slot-ticks-most (lines p) (facts p h) (slot-of (lines p) n) (slot-there n l))
 
       abbrev pub sent : List ℕ
       sent = senders-by-row (edges-table p .from) decided-by (processes-table p .node) (p .processes) conditionrow all-rows

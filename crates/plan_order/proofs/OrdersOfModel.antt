@@ -90,9 +90,9 @@ module _ (p : Plan) (h : plan-refusal (lines p) ≡ nothing) where
         ∙ ap (λ (u : List ℕ). getD u k 0) (urgencies-lines (lines p) 0 (length (lines p .processes)))
 
     pub same-weights : (u : List ℕ) {w : List ℕ} → u ≡ urgencies-of (at (q .ticks)) (at (t .from)) (at (t .to)) (p .edges) 0 (p .processes) ++ replicate (64 - p .processes) 0 →
-        w ≡ weights-of (p .pick) u → (k : ℕ) → at w k ≡ getD (weights (lines p)) k 0
+        w ≡ weights-of (p .line .pick) u → (k : ℕ) → at w k ≡ getD (weights (lines p)) k 0
     unfolding lines weights weights-by
-    same-weights u {w} e r k = ap (λ (v : List ℕ). at v k) r ∙ by (p .pick)
+    same-weights u {w} e r k = ap (λ (v : List ℕ). at v k) r ∙ by (p .line .pick)
       where
         by : (c : Pick) → at (weights-of c u) k ≡ getD (weights-by (lines p) (pick-of c)) k 0
         by Urgency = ap (λ (v : List ℕ). at v k) e ∙ padded-at (urgencies-of (at (q .ticks)) (at (t .from)) (at (t .to)) (p .edges) 0 (p .processes)) (64 - p .processes) k ∙ same-urgencies k

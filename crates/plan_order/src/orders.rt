@@ -96,7 +96,8 @@ pub fn fixed_orders(p: Plan) -> Orders
     let q = process_table(p);
     let e = edge_table(p);
     let urgency = urgencies(&q.ticks, p.processes, &e.from, &e.to, p.edges);
-    let pick = p.pick;
+    let line = p.line;
+    let pick = line.pick;
     let weight = weights(pick, urgency);
     let receiver = receiver_weights(&weight, &e.to, p.edges);
     let sender = sender_keys(&q.node, &e.from, &e.to, p.edges);

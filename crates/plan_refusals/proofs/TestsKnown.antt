@@ -9,7 +9,7 @@ use Rattle.plan.specs.declared.Plan.{Plan}
 use Rattle.plan.specs.declared.tables.SlotTable.{SlotTable}
 use Rattle.plan.specs.declared.tables.ProcessTable.{ProcessTable}
 use Rattle.plan.specs.declared.tables.EdgeTable.{EdgeTable}
-use Rattle.plan.specs.Memory.{lines}
+use Rattle.plan.specs.Memory.{line-of, lines}
 use Rattle.plan.specs.Tables.{slots-table, processes-table, edges-table}
 use Rattle.plan.specs.Tests.{at, sizes-test, nodes-test, ends-test, key, wrong-when-at, too-long-at}
 use Rattle.plan.proofs.TestsOnLines.{Few, sizes-same, nodes-same, ends-same, twins-same, when-same, long-same}
@@ -21,9 +21,9 @@ pub record Known (p : Plan) (s : SlotTable) (q : ProcessTable) (e : EdgeTable) :
   pub edge : e ≡ edges-table p
 
 module _ {p : Plan} {s : SlotTable} {q : ProcessTable} {e : EdgeTable} (k : Known p s q e) where
-  pub sizes : sizes-test (p .byte) (s .bytes) (p .slots) (e .bytes) (p .edges) (q .ticks) (p .processes) ≡ wrong-sizes (lines p)
+  pub sizes : sizes-test (line-of (p .line)) (s .bytes) (p .slots) (e .bytes) (p .edges) (q .ticks) (p .processes) ≡ wrong-sizes (lines p)
   sizes =
-      (λ j. sizes-test (p .byte) (k .slot j .bytes) (p .slots) (k .edge j .bytes) (p .edges) (k .process j .ticks) (p .processes)) ∙ sizes-same p (k .few)
+      (λ j. sizes-test (line-of (p .line)) (k .slot j .bytes) (p .slots) (k .edge j .bytes) (p .edges) (k .process j .ticks) (p .processes)) ∙ sizes-same p (k .few)
 
   pub nodes : nodes-test (s .node) (p .slots) (q .node) (p .processes) ≡ wrong-nodes (lines p)
   nodes = (λ j. nodes-test (k .slot j .node) (p .slots) (k .process j .node) (p .processes)) ∙ nodes-same p (k .few)

@@ -112,7 +112,7 @@ pub fn refuse(p: Plan) -> Refusal
     let q = process_table(p);
     let e = edge_table(p);
     let decider = p.condition;
-    if wrong_sizes(p.byte, s, p.slots, e, p.edges, q, p.processes) {
+    if wrong_sizes(p.line, s, p.slots, e, p.edges, q, p.processes) {
         return Refusal::Refused(3);
     }
     if wrong_nodes(s, p.slots, q, p.processes) {

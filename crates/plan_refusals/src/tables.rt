@@ -1,22 +1,24 @@
 // Refusals 3 and 4: the sizes and the node numbers of a plan's tables.
-use limits::BYTE;
 use limits::BYTES;
 use limits::TICKS;
 use plan::EdgeTable;
+use plan::PlanLine;
 use plan::ProcessTable;
 use plan::SlotTable;
 use plan::any_not_below;
 use plan::any_outside;
 use plan::any_twice;
-use plan::is_outside;
+use plan::wrong_plan_line;
 ghost use mathlib.Core.Path.{_≡_};
 ghost use Prim.Native.Nat.{_≤_};
 ghost use Rattle.limits.specs.Limits.{NODES, PROCESSES, EDGES};
+ghost use Rattle.plan.specs.Memory.{line-of};
 ghost use Rattle.plan.specs.Tests.{sizes-test, nodes-test};
 
-// `byte` is outside 1 to 1,000, the bytes of a slot or of an edge outside 1 to 64, or ticks outside 1 to 100,000.
+// `byte` is outside 1 to 1,000, `head` above 16, the bytes of a slot or of an edge outside 1 to 64, or ticks outside
+// 1 to 100,000.
 pub(crate) fn wrong_sizes(
-    byte: u32,
+    line: PlanLine,
     s: SlotTable,
     slots: usize,
     e: EdgeTable,
@@ -25,9 +27,9 @@ pub(crate) fn wrong_sizes(
     processes: usize,
 ) -> bool
     requires { ⌜ slots ≤ NODES ⌝ ∗ ⌜ edges ≤ EDGES ⌝ ∗ ⌜ processes ≤ PROCESSES ⌝ }
-    ensures { λ r. ⌜ r ≡ sizes-test byte (s .bytes) slots (e .bytes) edges (q .ticks) processes ⌝ }
+    ensures { λ r. ⌜ r ≡ sizes-test (line-of line) (s .bytes) slots (e .bytes) edges (q .ticks) processes ⌝ }
 {
-    if is_outside(byte, 1, BYTE) {
+    if wrong_plan_line(line) {
         return true;
     }
     if any_outside(&s.bytes, slots, 1, BYTES) {

@@ -13,9 +13,9 @@ use Rattle.lists.specs.Lists.{all, any, each}
 use Rattle.lists.proofs.Tests.{neither, join}
 use Rattle.lists.proofs.Members.{none-in, all-each}
 use Rattle.lists.proofs.Sums.{length-each}
-use Rattle.model.specs.Plan.{Lines, Pick, by-urgency, by-number, Waits, waits-all, waits-any, Slot, Process, Edge, When, always, on, decider}
-use Rattle.model.specs.Refusals.{nothing, wrong-counts, wrong-slot, wrong-edge, wrong-ticks, wrong-sizes, no-node, wrong-nodes, no-process, wrong-deciders, wrong-ends, twin-edges, undecided, wrong-when, plan-refusal}
-use Rattle.model.specs.Text.{text, decimal, field, pick-text, waits-text, when-text, slot-line, process-line, condition-line, edge-line, plan-line, print, short, when-numbers, slot-numbers, process-numbers, condition-numbers, edge-numbers, numbers}
+use Rattle.model.specs.Plan.{Lines, PlanLine, Pick, by-urgency, by-number, Waits, waits-all, waits-any, Slot, Process, Edge, When, always, on, decider}
+use Rattle.model.specs.Refusals.{nothing, wrong-counts, wrong-plan, wrong-slot, wrong-edge, wrong-ticks, wrong-sizes, no-node, wrong-nodes, no-process, wrong-deciders, wrong-ends, twin-edges, undecided, wrong-when, plan-refusal}
+use Rattle.model.specs.Text.{text, decimal, field, pick-text, waits-text, when-text, slot-line, process-line, condition-line, edge-line, plan-line, print, short, when-numbers, plan-numbers, slot-numbers, process-numbers, condition-numbers, edge-numbers, numbers}
 use Rattle.laws.proofs.Good.{pass, inside}
 use Rattle.text_grammar.proofs.Numbers.{decimal-length}
 use Rattle.text_grammar.proofs.Whole.{numbers-short}
@@ -31,7 +31,7 @@ record Bounds (p : Lines) : Type 0 where
   processes : length (p .processes) ≤ 64
   conditions : length (p .conditions) ≤ 6
   edges : length (p .edges) ≤ 128
-  byte : p .byte < 1000000
+  plan : Small (plan-numbers (p .plan))
   slot : (s : Slot) → In s (p .slots) → Small (slot-numbers s)
   process : (q : Process) → In q (p .processes) → Small (process-numbers q)
   condition : (i : ℕ) → In i (p .conditions) → Small (condition-numbers i)
@@ -50,7 +50,7 @@ small-when p i (on v k) l h =
     (below-count (length (p .conditions)) 6 k refl l (neither (leb (length (p .conditions)) k) (not (eqb (decider p k) i)) h .0), tt)
 
 bounds : (p : Lines) → plan-refusal p ≡ nothing → Bounds p
-unfolding plan-refusal wrong-counts wrong-slot wrong-edge wrong-ticks wrong-sizes no-node wrong-nodes no-process wrong-deciders wrong-ends wrong-when
+unfolding plan-refusal wrong-counts wrong-plan wrong-slot wrong-edge wrong-ticks wrong-sizes no-node wrong-nodes no-process wrong-deciders wrong-ends wrong-when
 bounds p h =
     let s2 = pass 2 (wrong-counts p) _ h in
     let s3 = pass 3 (wrong-sizes p) _ (s2 .1) in
@@ -65,6 +65,7 @@ bounds p h =
     let a3 = neither _ _ (s3 .0) in
     let b3 = neither _ _ (a3 .0) in
     let c3 = neither _ _ (b3 .0) in
+    let d3 = neither _ _ (c3 .0) in
     let b4 = neither _ _ (neither _ _ (s4 .0) .0) in
     let slots : length (p .slots) ≤ 8 = inside 1 8 (length (p .slots)) (c2 .0) .1 in
     let processes : length (p .processes) ≤ 64 = inside 1 64 (length (p .processes)) (c2 .1) .1 in
@@ -76,7 +77,7 @@ bounds p h =
       processes = processes;
       conditions = conditions;
       edges = ltb-false 128 (length (p .edges)) (a2 .1);
-      byte = small 1000 (p .byte) refl (inside 1 1000 (p .byte) (c3 .0) .1);
+      plan = (small 1000 (p .plan .byte) refl (inside 1 1000 (p .plan .byte) (d3 .0) .1), (small 16 (p .plan .head) refl (ltb-false 16 (p .plan .head) (d3 .1)), tt));
       slot = λ s m.
           (a-node (s .node) (none-in (λ s. no-node p (s .node)) (b4 .0) m), (small 64 (s .bytes) refl (inside 1 64 (s .bytes) (none-in wrong-slot (c3 .1) m) .1), tt));
       process = λ q m.
@@ -105,7 +106,7 @@ pub plan-short : (p : Lines) → plan-refusal p ≡ nothing → all short (numbe
 plan-short p h =
     let b = bounds p h in
     numbers-short p (
-      small-short (p .byte ∷ []) (b .byte, tt),
+      small-short (plan-numbers (p .plan)) (b .plan),
       all-each short slot-numbers (p .slots) (λ s m. small-short (slot-numbers s) (b .slot s m)),
       all-each short process-numbers (p .processes) (λ q m. small-short (process-numbers q) (b .process q m)),
       all-each short condition-numbers (p .conditions) (λ i m. small-short (condition-numbers i) (b .condition i m)),
@@ -137,16 +138,19 @@ when-length always h = omega arith
 when-length (on true k) h = omega (arith, field-length "true" k (h .0))
 when-length (on false k) h = omega (arith, field-length "false" k (h .0))
 
-plan-length : (p : Lines) → p .byte < 1000000 → length (plan-line (p .byte) (p .pick)) ≤ 36
+plan-length : (l : PlanLine) → Small (plan-numbers l) → length (plan-line l) ≤ 50
 unfolding plan-line
-plan-length p l =
-    let a : List ℕ = text "(plan " ++ field "byte" (p .byte) ++ text " " in
+plan-length l h =
+    let a : List ℕ = text "(plan " ++ field "byte" (l .byte) ++ text " " in
+    let b : List ℕ = a ++ field "head" (l .head) ++ text " " in
     omega (
       arith,
-      three (text "(plan ") (field "byte" (p .byte)) (text " "),
-      three a (pick-text (p .pick)) (text ")\n"),
-      field-length "byte" (p .byte) l,
-      pick-length (p .pick),
+      three (text "(plan ") (field "byte" (l .byte)) (text " "),
+      three a (field "head" (l .head)) (text " "),
+      three b (pick-text (l .pick)) (text ")\n"),
+      field-length "byte" (l .byte) (h .0),
+      field-length "head" (l .head) (h .1 .0),
+      pick-length (l .pick),
     )
 
 slot-length : (s : Slot) → Small (slot-numbers s) → length (slot-line s) ≤ 36
@@ -206,13 +210,13 @@ print-length p h =
     let qs : List ℕ = each process-line (p .processes) in
     omega (
       arith,
-      three (plan-line (p .byte) (p .pick)) ss qs,
-      three (plan-line (p .byte) (p .pick) ++ ss ++ qs) (each condition-line (p .conditions)) (each edge-line (p .edges)),
+      three (plan-line (p .plan)) ss qs,
+      three (plan-line (p .plan) ++ ss ++ qs) (each condition-line (p .conditions)) (each edge-line (p .edges)),
       b .slots,
       b .processes,
       b .conditions,
       b .edges,
-      plan-length p (b .byte),
+      plan-length (p .plan) (b .plan),
       length-each slot-line (p .slots) 36 (λ s m. slot-length s (b .slot s m)),
       length-each process-line (p .processes) 51 (λ q m. process-length q (b .process q m)),
       length-each condition-line (p .conditions) 29 (λ i m. condition-length i (b .condition i m)),

@@ -3,11 +3,11 @@
 use mathlib.Core.Path.{_≡_, refl, ap, _∙_}
 use mathlib.Core.Bool.{Bool, true, false}
 use mathlib.Core.Logic.{_⊎_, inl, inr}
-use mathlib.Core.List.{List, [], _∷_, _++_, append-assoc}
+use mathlib.Core.List.{List, [], _++_, append-assoc}
 use Prim.Native.Nat.{ℕ}
-use Rattle.model.specs.Plan.{Pick, by-urgency, by-number, Waits, waits-all, waits-any, Slot, Process, Edge, When, always, on}
-use Rattle.model.specs.Text.{text, field, pick-text, waits-text, when-text, slot-line, process-line, condition-line, edge-line, plan-line, when-numbers, slot-numbers, process-numbers, condition-numbers, edge-numbers}
-use Rattle.text_grammar.specs.Parse.{value-at, word-at, field-at, closed-at, pick-at, waits-at, on-at, when-at, Head, head-at, slot-at, process-at, condition-at, edge-at}
+use Rattle.model.specs.Plan.{PlanLine, Pick, by-urgency, by-number, Waits, waits-all, waits-any, Slot, Process, Edge, When, always, on}
+use Rattle.model.specs.Text.{text, field, pick-text, waits-text, when-text, slot-line, process-line, condition-line, edge-line, plan-line, when-numbers, plan-numbers, slot-numbers, process-numbers, condition-numbers, edge-numbers}
+use Rattle.text_grammar.specs.Parse.{value-at, word-at, field-at, closed-at, pick-at, waits-at, on-at, when-at, plan-at, slot-at, process-at, condition-at, edge-at}
 use Rattle.text_grammar.proofs.Numbers.{bracketed}
 use Rattle.text_grammar.proofs.Inverse.{Reads, Inverse, whole, field-reads, closed-reads, value-reads, choice-reads, first, made, either}
 
@@ -59,17 +59,19 @@ when-reads =
 regroup : (a b c d : List ℕ) → a ++ (b ++ (c ++ d)) ≡ a ++ b ++ c ++ d
 regroup a b c d = simp append-assoc
 
-abbrev pub head-line : Head → List ℕ
-head-line h = plan-line (h .byte) (h .pick)
-
-pub head-reads : Inverse head-at head-line (λ h. h .byte ∷ [])
-unfolding head-at plan-line field
-head-reads =
+pub plan-reads : Inverse plan-at plan-line plan-numbers
+unfolding plan-at plan-line field
+plan-reads =
     whole
-    (first (field-reads (text "(plan (byte ")) (λ h. h .byte) (λ n h known. ap (λ (z : Head). z .byte) (known .1)) (λ n.
-    made pick-reads (λ k. record { byte = n; pick = k }) (λ k. refl) (λ k. refl)))
-    (λ h. (h .pick, refl))
-    (λ h. ap (λ l. text "(plan (byte " ++ l) (regroup (bracketed (h .byte)) (text " ") (pick-text (h .pick)) (text ")\n")))
+    (first (field-reads (text "(plan (byte ")) (λ l. l .byte) (λ n l known. ap (λ (z : PlanLine). z .byte) (known .1)) (λ n.
+    first (field-reads (text " (head ")) (λ l. l .head) (λ h l known. ap (λ (z : PlanLine). z .head) (known .1)) (λ h.
+    made pick-reads (λ k. record { byte = n; head = h; pick = k }) (λ k. refl) (λ k. refl))))
+    (λ l. (l .pick, refl))
+    (λ l.
+    let a : List ℕ = bracketed (l .byte) in
+    let b : List ℕ = field "head" (l .head) in
+    ap (λ z. text "(plan (byte " ++ z)
+    (regroup a (text " ") b (pick-end (l .pick)) ∙ regroup (a ++ text " " ++ b) (text " ") (pick-text (l .pick)) (text ")\n")))
 
 pub slot-reads : Inverse slot-at slot-line slot-numbers
 unfolding slot-at slot-line field

@@ -7,10 +7,10 @@ use Prim.Native.Nat.{ℕ}
 use Rattle.lists.specs.Lists.{all, each}
 use Rattle.lists.proofs.Members.{all-parts, all-joined}
 use Rattle.model.specs.Plan.{Lines, Process, Edge}
-use Rattle.model.specs.Text.{field, slot-line, process-line, condition-line, edge-line, print, short, slot-numbers, process-numbers, condition-numbers, edge-numbers, numbers, Means}
-use Rattle.text_grammar.specs.Parse.{Parsed, none, got, word-at, field-at, closed-at, Head, head-at, slot-at, process-at, condition-at, edge-at, run-at, lines-at, got-lines, to-end, read-lines}
+use Rattle.model.specs.Text.{field, slot-line, process-line, condition-line, edge-line, plan-line, print, short, plan-numbers, slot-numbers, process-numbers, condition-numbers, edge-numbers, numbers, Means}
+use Rattle.text_grammar.specs.Parse.{Parsed, none, got, word-at, field-at, closed-at, plan-at, slot-at, process-at, condition-at, edge-at, run-at, lines-at, got-lines, to-end, read-lines}
 use Rattle.text_grammar.proofs.Parsed.{not-lines, got-same, parts}
-use Rattle.text_grammar.proofs.Forms.{head-line, head-reads, slot-reads, process-reads, condition-reads, edge-reads}
+use Rattle.text_grammar.proofs.Forms.{plan-reads, slot-reads, process-reads, condition-reads, edge-reads}
 use Rattle.text_grammar.proofs.Runs.{run-complete, run-sound}
 
 -- Each run is over where the next lines begin, and at the end.
@@ -56,25 +56,22 @@ module _ (a b c d e : List ℕ) where
 
 module _ (p : Lines) where
   abbrev Parts-short : Type 0
-  Parts-short = Five (p .byte ∷ []) (each slot-numbers (p .slots)) (each process-numbers (p .processes)) (each condition-numbers (p .conditions)) (each edge-numbers (p .edges))
+  Parts-short = Five (plan-numbers (p .plan)) (each slot-numbers (p .slots)) (each process-numbers (p .processes)) (each condition-numbers (p .conditions)) (each edge-numbers (p .edges))
 
   parts-short : all short (numbers p) ≡ true → Parts-short
   unfolding numbers
   parts-short h =
-      five-parts (p .byte ∷ []) (each slot-numbers (p .slots)) (each process-numbers (p .processes)) (each condition-numbers (p .conditions)) (each edge-numbers (p .edges)) h
+      five-parts (plan-numbers (p .plan)) (each slot-numbers (p .slots)) (each process-numbers (p .processes)) (each condition-numbers (p .conditions)) (each edge-numbers (p .edges)) h
 
   pub numbers-short : Parts-short → all short (numbers p) ≡ true
   unfolding numbers
   numbers-short h =
-      five-joined (p .byte ∷ []) (each slot-numbers (p .slots)) (each process-numbers (p .processes)) (each condition-numbers (p .conditions)) (each edge-numbers (p .edges)) h
-
-abbrev head : Lines → Head
-head p = record { byte = p .byte; pick = p .pick }
+      five-joined (plan-numbers (p .plan)) (each slot-numbers (p .slots)) (each process-numbers (p .processes)) (each condition-numbers (p .conditions)) (each edge-numbers (p .edges)) h
 
 in-turn : (p : Lines) → print p
-    ≡ head-line (head p) ++ (each slot-line (p .slots) ++ (each process-line (p .processes) ++ (each condition-line (p .conditions) ++ (each edge-line (p .edges) ++ []))))
+    ≡ plan-line (p .plan) ++ (each slot-line (p .slots) ++ (each process-line (p .processes) ++ (each condition-line (p .conditions) ++ (each edge-line (p .edges) ++ []))))
 unfolding print
-in-turn p = regrouped (head-line (head p)) (each slot-line (p .slots)) (each process-line (p .processes)) (each condition-line (p .conditions)) (each edge-line (p .edges))
+in-turn p = regrouped (plan-line (p .plan)) (each slot-line (p .slots)) (each process-line (p .processes)) (each condition-line (p .conditions)) (each edge-line (p .edges))
   where
     regrouped : (a b c d e : List ℕ) → a ++ b ++ c ++ d ++ e ≡ a ++ (b ++ (c ++ (d ++ (e ++ []))))
     regrouped a b c d e = simp (append-assoc, append-nil)
@@ -89,14 +86,14 @@ lines-complete p h =
     let r₁ : List ℕ = each slot-line (p .slots) ++ r₂ in
     rw (
       in-turn p,
-      head-reads .complete (head p) r₁ tt (n .0),
+      plan-reads .complete (p .plan) r₁ tt (n .0),
       run-complete slot-reads (slot-over [] [] []) (p .slots) r₂ (n .1) (slot-over (p .processes) (p .conditions) (p .edges)),
       run-complete process-reads (process-over [] []) (p .processes) r₃ (n .2) (process-over (p .conditions) (p .edges)),
       run-complete condition-reads (condition-over []) (p .conditions) r₄ (n .3) (condition-over (p .edges)),
       run-complete edge-reads edge-over (p .edges) [] (n .4) edge-over,
     )
 
-put-together : (s r₁ r₂ r₃ r₄ r₅ : List ℕ) (p q : Lines) → got q r₅ ≡ got p [] → s ≡ head-line (head q) ++ r₁ → r₁ ≡ each slot-line (q .slots) ++ r₂
+put-together : (s r₁ r₂ r₃ r₄ r₅ : List ℕ) (p q : Lines) → got q r₅ ≡ got p [] → s ≡ plan-line (q .plan) ++ r₁ → r₁ ≡ each slot-line (q .slots) ++ r₂
     → r₂ ≡ each process-line (q .processes) ++ r₃ → r₃ ≡ each condition-line (q .conditions) ++ r₄ → r₄ ≡ each edge-line (q .edges) ++ r₅
     → Parts-short q → Means s p
 put-together s r₁ r₂ r₃ r₄ r₅ p q h a b c d e n =
@@ -106,12 +103,12 @@ put-together s r₁ r₂ r₃ r₄ r₅ p q h a b c d e n =
 lines-sound : (s : List ℕ) (p : Lines) → lines-at s ≡ got p [] → Means s p
 unfolding lines-at
 lines-sound s p h =
-    let a = parts (head-at s) _ h in
+    let a = parts (plan-at s) _ h in
     let b = parts (run-at slot-at (a .rest)) _ (a .two) in
     let c = parts (run-at process-at (b .rest)) _ (b .two) in
     let d = parts (run-at condition-at (c .rest)) _ (c .two) in
     let e = parts (run-at edge-at (d .rest)) _ (d .two) in
-    let f = head-reads .sound s (a .value) (a .rest) (a .one) in
+    let f = plan-reads .sound s (a .value) (a .rest) (a .one) in
     let g = run-sound slot-reads (slot-over [] [] []) (a .rest) (b .value) (b .rest) (b .one) in
     let i = run-sound process-reads (process-over [] []) (b .rest) (c .value) (c .rest) (c .one) in
     let j = run-sound condition-reads (condition-over []) (c .rest) (d .value) (d .rest) (d .one) in

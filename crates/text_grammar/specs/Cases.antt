@@ -7,7 +7,7 @@ use mathlib.Core.List.{List, [], _∷_, map}
 use Prim.Native.String.{String}
 use Rattle.model.specs.Plan.{Lines, by-number, waits-any}
 use Rattle.model.specs.Text.{text}
-use Rattle.text_grammar.specs.Parse.{Parsed, none, got, number-at, Whole, no-lines, got-lines, read-lines, word-at, digit, goes-on, digits-at, field-at, closed-at, value-at, pick-at, waits-at, on-at, when-at, head-at, slot-at, process-at, condition-at, edge-at, run-in, run-at, lines-at, to-end}
+use Rattle.text_grammar.specs.Parse.{Parsed, none, got, number-at, Whole, no-lines, got-lines, read-lines, word-at, digit, goes-on, digits-at, field-at, closed-at, value-at, pick-at, waits-at, on-at, when-at, plan-at, slot-at, process-at, condition-at, edge-at, run-in, run-at, lines-at, to-end}
 
 pub record Number-case : Type 0 where
   pub bytes : String
@@ -32,8 +32,7 @@ pub record Text-case : Type 0 where
 abbrev pub small : Lines
 small =
     record {
-      byte = 1;
-      pick = by-number;
+      plan = record { byte = 1; head = 3; pick = by-number };
       slots = record { node = 0; bytes = 2 } ∷ [];
       processes = record { node = 0; ticks = 7; waits = waits-any } ∷ [];
       conditions = [];
@@ -42,13 +41,18 @@ small =
 
 abbrev pub texts : List Text-case
 texts =
-    record { bytes = "(plan (byte 1) (pick number))\n(slot (node 0) (bytes 2))\n(process (node 0) (ticks 7) (waits any))\n"; stated = got-lines small }
+    record { bytes = "(plan (byte 1) (head 3) (pick number))\n(slot (node 0) (bytes 2))\n(process (node 0) (ticks 7) (waits any))\n"; stated = got-lines small }
     ∷ record { bytes = ""; stated = no-lines }
-    ∷ record { bytes = "(plan (byte 1) (pick number))\n(slot (node 0) (bytes 2))\n(process (node 0) (ticks 7) (waits any))"; stated = no-lines }
-    ∷ record { bytes = "(plan (byte 1) (pick number))\r\n"; stated = no-lines }
-    ∷ record { bytes = "(plan (byte 1) (pick number))\n\n"; stated = no-lines }
-    ∷ record { bytes = "(plan (byte 1)  (pick number))\n"; stated = no-lines }
-    ∷ record { bytes = "(plan (byte 1) (pick number))\n(process (node 0) (ticks 7) (waits any))\n(slot (node 0) (bytes 2))\n"; stated = no-lines }
+    ∷ record { bytes = "(plan (byte 1) (head 3) (pick number))\n(slot (node 0) (bytes 2))\n(process (node 0) (ticks 7) (waits any))"; stated = no-lines }
+    ∷ record { bytes = "(plan (byte 1) (pick number))\n(slot (node 0) (bytes 2))\n(process (node 0) (ticks 7) (waits any))\n"; stated = no-lines }
+    ∷ record { bytes = "(plan (head 3) (byte 1) (pick number))\n(slot (node 0) (bytes 2))\n(process (node 0) (ticks 7) (waits any))\n"; stated = no-lines }
+    ∷ record { bytes = "(plan (byte 1) (pick number) (head 3))\n(slot (node 0) (bytes 2))\n(process (node 0) (ticks 7) (waits any))\n"; stated = no-lines }
+    ∷ record { bytes = "(plan (byte 1) (head 3) (head 3) (pick number))\n(slot (node 0) (bytes 2))\n(process (node 0) (ticks 7) (waits any))\n"; stated = no-lines }
+    ∷ record { bytes = "(plan (byte 1) (head 1000000000) (pick number))\n(slot (node 0) (bytes 2))\n(process (node 0) (ticks 7) (waits any))\n"; stated = no-lines }
+    ∷ record { bytes = "(plan (byte 1) (head 3) (pick number))\r\n"; stated = no-lines }
+    ∷ record { bytes = "(plan (byte 1) (head 3) (pick number))\n\n"; stated = no-lines }
+    ∷ record { bytes = "(plan (byte 1)  (head 3) (pick number))\n"; stated = no-lines }
+    ∷ record { bytes = "(plan (byte 1) (head 3) (pick number))\n(process (node 0) (ticks 7) (waits any))\n(slot (node 0) (bytes 2))\n"; stated = no-lines }
     ∷ []
 
 pub numbers-hold : map (λ c. number-at (text (c .bytes))) numbers ≡ map (λ c. c .stated) numbers
@@ -56,5 +60,5 @@ unfolding number-at digits-at digit goes-on
 numbers-hold = refl
 
 pub texts-hold : map (λ c. read-lines (text (c .bytes))) texts ≡ map (λ c. c .stated) texts
-unfolding read-lines to-end lines-at run-at run-in edge-at condition-at process-at slot-at head-at when-at on-at waits-at pick-at value-at closed-at field-at number-at digits-at goes-on digit word-at
+unfolding read-lines to-end lines-at run-at run-in edge-at condition-at process-at slot-at plan-at when-at on-at waits-at pick-at value-at closed-at field-at number-at digits-at goes-on digit word-at
 texts-hold = refl

@@ -6,7 +6,7 @@ use mathlib.Core.List.{List, [], _∷_}
 use lib.Dec.{eqb, leb, ltb}
 use lib.ListN.{length}
 use Rattle.lists.specs.Lists.{if_then_else_}
-use Rattle.model.specs.Plan.{Lines, Pick, by-urgency, by-number, Waits, waits-all, waits-any, Slot, Process, Edge, When, always, on}
+use Rattle.model.specs.Plan.{Lines, PlanLine, Pick, by-urgency, by-number, Waits, waits-all, waits-any, Slot, Process, Edge, When, always, on}
 use Rattle.model.specs.Text.{text}
 
 pub data Parsed (A : Type 0) : Type 0 where
@@ -74,12 +74,10 @@ when-at s =
     or (or (value-at (text " (when always))\n") always s) (on-at true (text " (when (true ") s)) (on-at false (text " (when (false ") s)
 
 -- the lines
-pub record Head : Type 0 where
-  pub byte : ℕ
-  pub pick : Pick
-
-unfoldable pub head-at : List ℕ → Parsed Head
-head-at s = and-then (field-at (text "(plan (byte ") s) (λ n r. and-then (pick-at r) (λ k q. got (record { byte = n; pick = k }) q))
+unfoldable pub plan-at : List ℕ → Parsed PlanLine
+plan-at s =
+    and-then (field-at (text "(plan (byte ") s) (λ n r. and-then (field-at (text " (head ") r) (λ h q.
+    and-then (pick-at q) (λ k o. got (record { byte = n; head = h; pick = k }) o)))
 
 unfoldable pub slot-at : List ℕ → Parsed Slot
 slot-at s =
@@ -109,9 +107,9 @@ run-at line-at s = run-in line-at (length s) s
 -- the whole text: the plan line, the runs in their order, and nothing behind them
 unfoldable pub lines-at : List ℕ → Parsed Lines
 lines-at s =
-    and-then (head-at s) (λ h r. and-then (run-at slot-at r) (λ ss q. and-then (run-at process-at q) (λ qs o.
-    and-then (run-at condition-at o) (λ cs m. and-then (run-at edge-at m) (λ es l.
-    got (record { byte = h .byte; pick = h .pick; slots = ss; processes = qs; conditions = cs; edges = es }) l)))))
+    and-then (plan-at s) (λ l r. and-then (run-at slot-at r) (λ ss q. and-then (run-at process-at q) (λ qs o.
+    and-then (run-at condition-at o) (λ cs m. and-then (run-at edge-at m) (λ es k.
+    got (record { plan = l; slots = ss; processes = qs; conditions = cs; edges = es }) k)))))
 
 pub data Whole : Type 0 where
   no-lines : Whole

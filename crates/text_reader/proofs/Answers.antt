@@ -12,16 +12,16 @@ use Rattle.model.specs.Plan.{Lines}
 use Rattle.model.specs.Refusals.{wrong-counts, plan-refusal}
 use Rattle.model.specs.Text.{Reading, not-read, after-refusal, Answers-text, too-long, of-no-form, of-form}
 use Rattle.laws.proofs.Good.{inside}
-use Rattle.text_grammar.specs.Parse.{none, got, head-at, lines-at, no-lines, got-lines, to-end, read-lines}
+use Rattle.text_grammar.specs.Parse.{none, got, plan-at, lines-at, no-lines, got-lines, to-end, read-lines}
 use Rattle.text_grammar.proofs.Parsed.{not-lines}
 use Rattle.text_grammar.proofs.Whole.{read-means, means-read}
-use Rattle.plan.specs.Memory.{pick-of, slot-of, process-of, edge-of, held-slot, held-process, held-edge, no-slot, no-process, no-edge, lines, empty-plan}
-use Rattle.plan.specs.declared.Pick.{Pick}
+use Rattle.plan.specs.Memory.{line-of, slot-of, process-of, edge-of, held-slot, held-process, held-edge, no-slot, no-process, no-edge, lines, empty-plan}
+use Rattle.plan.specs.declared.PlanLine.{PlanLine}
 use Rattle.plan.specs.declared.Plan.{Plan}
 use Rattle.plan.proofs.HeldLines.{held-process-of, held-edge-of}
 use Rattle.plan.proofs.Counted.{counted-length, counted-front}
 use Rattle.text_reader.specs.declared.line_runs.Filled.{Filled}
-use Rattle.text_reader.specs.Run.{Run, with-head, filled}
+use Rattle.text_reader.specs.Run.{Run, with-line, filled}
 use Rattle.text_reader.specs.Run as kinds
 
 -- refusal 1
@@ -32,21 +32,20 @@ module _ {text : List ℕ} {r : Reading} (e : r ≡ not-read 1) where
   pub no-form-text : read-lines text ≡ no-lines → Answers-text text r
   no-form-text h = rw e (of-no-form (λ p m. not-lines (sym h ∙ means-read m)))
 
-pub no-head : (text : List ℕ) → head-at text ≡ none → read-lines text ≡ no-lines
+pub no-plan-line : (text : List ℕ) → plan-at text ≡ none → read-lines text ≡ no-lines
 unfolding read-lines to-end lines-at
-no-head text h = rw h
+no-plan-line text h = rw h
 
 -- The parts of a text that begins with a plan line: its runs, read into the plan that started empty, and where they
 -- end.
-module _ {text : List ℕ} {byte : ℕ} (pick : Pick) {i : ℕ} {start : Plan} {s q c e : Filled}
-    (first : head-at text ≡ got (record { byte = byte; pick = pick-of pick }) (drop i text)) (begins : start ≡ with-head empty-plan byte pick)
+module _ {text : List ℕ} (line : PlanLine) {i : ℕ} {start : Plan} {s q c e : Filled}
+    (first : plan-at text ≡ got (line-of line) (drop i text)) (begins : start ≡ with-line empty-plan line)
     (slots : Run kinds.slots text i start s) (processes : Run kinds.processes text (s .next) (s .plan) q)
     (conditions : Run kinds.conditions text (q .next) (q .plan) c) (edges : Run kinds.edges text (c .next) (c .plan) e) where
   abbrev said : Lines
   said =
       record {
-        byte = byte;
-        pick = pick-of pick;
+        plan = line-of line;
         slots = slots .lines;
         processes = processes .lines;
         conditions = conditions .lines;
@@ -56,8 +55,7 @@ module _ {text : List ℕ} {byte : ℕ} (pick : Pick) {i : ℕ} {start : Plan} {
   abbrev kept : Plan
   kept =
       record {
-        byte = byte;
-        pick = pick;
+        line = line;
         slots = length (slots .lines);
         slot = filled kinds.slots (slots .lines) (empty-plan .slot);
         processes = length (processes .lines);

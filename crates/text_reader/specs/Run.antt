@@ -9,7 +9,7 @@ use Rattle.limits.specs.Limits.{SLOTS, PROCESSES, CONDITIONS, EDGES}
 use Rattle.lists.specs.Front.{front}
 use Rattle.model.specs.Plan as m
 use Rattle.text_grammar.specs.Parse.{Parsed, got, slot-at, process-at, condition-at, edge-at, run-at}
-use Rattle.plan.specs.declared.Pick.{Pick}
+use Rattle.plan.specs.declared.PlanLine.{PlanLine}
 use Rattle.plan.specs.declared.Slot.{Slot}
 use Rattle.plan.specs.declared.Process.{Process}
 use Rattle.plan.specs.declared.Edge.{Edge}
@@ -18,11 +18,10 @@ use Rattle.plan.specs.Memory.{held-slot, held-process, held-edge}
 use Rattle.text_reader.specs.declared.line_runs.Filled.{Filled}
 
 -- a plan by its fields; then with another plan line, and with another count and array of one kind of line
-abbrev pub plan-from : ℕ → Pick → ℕ → List Slot → ℕ → List Process → ℕ → List ℕ → ℕ → List Edge → Plan
-plan-from byte pick slots slot processes process conditions condition edges edge =
+abbrev pub plan-from : PlanLine → ℕ → List Slot → ℕ → List Process → ℕ → List ℕ → ℕ → List Edge → Plan
+plan-from line slots slot processes process conditions condition edges edge =
     record {
-      byte = byte;
-      pick = pick;
+      line = line;
       slots = slots;
       slot = slot;
       processes = processes;
@@ -33,26 +32,26 @@ plan-from byte pick slots slot processes process conditions condition edges edge
       edge = edge;
     }
 
-abbrev pub with-head : Plan → ℕ → Pick → Plan
-with-head p byte pick =
-    plan-from byte pick (p .slots) (p .slot) (p .processes) (p .process) (p .conditions) (p .condition) (p .edges)
+abbrev pub with-line : Plan → PlanLine → Plan
+with-line p line =
+    plan-from line (p .slots) (p .slot) (p .processes) (p .process) (p .conditions) (p .condition) (p .edges)
     (p .edge)
 
 abbrev pub with-slots : Plan → ℕ → List Slot → Plan
 with-slots p n xs =
-    plan-from (p .byte) (p .pick) n xs (p .processes) (p .process) (p .conditions) (p .condition) (p .edges) (p .edge)
+    plan-from (p .line) n xs (p .processes) (p .process) (p .conditions) (p .condition) (p .edges) (p .edge)
 
 abbrev pub with-processes : Plan → ℕ → List Process → Plan
 with-processes p n xs =
-    plan-from (p .byte) (p .pick) (p .slots) (p .slot) n xs (p .conditions) (p .condition) (p .edges) (p .edge)
+    plan-from (p .line) (p .slots) (p .slot) n xs (p .conditions) (p .condition) (p .edges) (p .edge)
 
 abbrev pub with-conditions : Plan → ℕ → List ℕ → Plan
 with-conditions p n xs =
-    plan-from (p .byte) (p .pick) (p .slots) (p .slot) (p .processes) (p .process) n xs (p .edges) (p .edge)
+    plan-from (p .line) (p .slots) (p .slot) (p .processes) (p .process) n xs (p .edges) (p .edge)
 
 abbrev pub with-edges : Plan → ℕ → List Edge → Plan
 with-edges p n xs =
-    plan-from (p .byte) (p .pick) (p .slots) (p .slot) (p .processes) (p .process) (p .conditions) (p .condition) n xs
+    plan-from (p .line) (p .slots) (p .slot) (p .processes) (p .process) (p .conditions) (p .condition) n xs
 
 -- A kind of line: in the model and in memory, how it is read, how it is held in memory, how many a plan has room for,
 -- the plan's array of them, and the plan with another count and array.

@@ -4,20 +4,18 @@ use crate::line_runs::read_edges;
 use crate::line_runs::read_processes;
 use crate::line_runs::read_slots;
 use limits::TEXT;
-use plan::Pick;
 use plan::Plan;
 use plan::empty;
 use plan_refusals::Refusal;
 use plan_refusals::refuse;
-use text_scanner::HeadAt;
-use text_scanner::head;
+use text_scanner::PlanLineAt;
+use text_scanner::plan_line;
 ghost use mathlib.Core.Path.{_≡_};
 ghost use Rattle.model.specs.Refusals.{plan-refusal};
 ghost use Rattle.model.specs.Text.{Answers-text, not-read, after-refusal};
 ghost use Rattle.plan.specs.Memory.{lines};
 ghost use Rattle.plan_refusals.specs.Answer.{refusal-of};
 ghost use Rattle.text_reader.specs.Answer.{reading-of, Emptied};
-ghost use Rattle.text_reader.specs.Run.{with-head};
 
 // What a text is read as: the plan, or a refusal and the empty plan.
 pub struct Read {
@@ -61,32 +59,6 @@ fn refused_or_read(plan: Plan) -> Read
     answer(refusal, plan)
 }
 
-// A plan with another plan line. A field that is an enum is not stored to, so that the struct is written anew.
-fn with_head(p: Plan, byte: u32, pick: Pick) -> Plan
-    ensures { λ r. ⌜ r ≡ with-head p byte pick ⌝ }
-{
-    let slots = p.slots;
-    let slot = p.slot;
-    let processes = p.processes;
-    let process = p.process;
-    let conditions = p.conditions;
-    let condition = p.condition;
-    let edges = p.edges;
-    let edge = p.edge;
-    Plan {
-        byte,
-        pick,
-        slots,
-        slot,
-        processes,
-        process,
-        conditions,
-        condition,
-        edges,
-        edge,
-    }
-}
-
 // The plan that a text says, of any bytes: refusals 1 to 9. It starts empty and is filled with one kind of line after
 // another.
 pub fn read_plan(text: &[u8]) -> Read
@@ -96,11 +68,11 @@ pub fn read_plan(text: &[u8]) -> Read
     if TEXT < text.len() {
         return no_form();
     }
-    let HeadAt::Got(byte, pick, i) = head(text, 0) else {
+    let PlanLineAt::Got(line, i) = plan_line(text, 0) else {
         return no_form();
     };
-    let start = empty();
-    let plan = with_head(start, byte, pick);
+    let mut plan = empty();
+    plan.line = line;
     let s = read_slots(text, i, plan);
     let q = read_processes(text, s.next, s.plan);
     let c = read_conditions(text, q.next, q.plan);

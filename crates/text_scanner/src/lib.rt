@@ -7,12 +7,12 @@ mod lines;
 mod words;
 
 pub use lines::EdgeAt;
-pub use lines::HeadAt;
+pub use lines::PlanLineAt;
 pub use lines::ProcessAt;
 pub use lines::SlotAt;
 pub use lines::condition;
 pub use lines::edge;
-pub use lines::head;
+pub use lines::plan_line;
 pub use lines::process;
 pub use lines::slot;
 pub use words::NumberAt;

@@ -9,18 +9,18 @@ use crate::words::NumberAt;
 use crate::words::closed;
 use crate::words::field;
 use plan::Edge;
-use plan::Pick;
+use plan::PlanLine;
 use plan::Process;
 use plan::Slot;
 ghost use Prim.Native.Nat.{_≤_};
 ghost use lib.ListN.{length, drop};
-ghost use Rattle.text_grammar.specs.Parse.{head-at, slot-at, process-at, condition-at, edge-at};
+ghost use Rattle.text_grammar.specs.Parse.{plan-at, slot-at, process-at, condition-at, edge-at};
 ghost use Rattle.text_scanner.specs.Place.{Scanned, number};
-ghost use Rattle.text_scanner.specs.Lines.{head, slot, process, edge};
+ghost use Rattle.text_scanner.specs.Lines.{plan-line, slot, process, edge};
 
-// The `byte` and the `pick` of a plan line and the position behind it, or that none stands there.
-pub enum HeadAt {
-    Got(u32, Pick, usize),
+// A plan line and the position behind it, or that none stands there.
+pub enum PlanLineAt {
+    Got(PlanLine, usize),
     No,
 }
 
@@ -43,17 +43,27 @@ pub enum EdgeAt {
 }
 
 // The plan line at `at`.
-pub fn head(text: &[u8], at: usize) -> HeadAt
+pub fn plan_line(text: &[u8], at: usize) -> PlanLineAt
     requires { ⌜ at ≤ length (now text) ⌝ }
-    ensures { λ r. ⌜ Scanned (now (text .entry)) (head r) (head-at (drop at (now (text .entry)))) ⌝ }
+    ensures { λ r. ⌜ Scanned (now (text .entry)) (plan-line r) (plan-at (drop at (now (text .entry)))) ⌝ }
 {
     let NumberAt::Got(byte, i) = field(text, at, b"(plan (byte ") else {
-        return HeadAt::No;
+        return PlanLineAt::No;
     };
-    let PickAt::Got(k, j) = pick(text, i) else {
-        return HeadAt::No;
+    let NumberAt::Got(head, j) = field(text, i, b" (head ") else {
+        return PlanLineAt::No;
     };
-    HeadAt::Got(byte, k, j)
+    let PickAt::Got(p, k) = pick(text, j) else {
+        return PlanLineAt::No;
+    };
+    PlanLineAt::Got(
+        PlanLine {
+            byte,
+            head,
+            pick: p,
+        },
+        k,
+    )
 }
 
 // The slot line at `at`.

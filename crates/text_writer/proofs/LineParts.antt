@@ -18,10 +18,15 @@ abbrev pub waits-end : Waits → List ℕ
 waits-end waits-all = text ") (waits all))\n"
 waits-end waits-any = text ") (waits any))\n"
 
-pub plan-parts : (byte : ℕ) (pick : Pick) → plan-line byte pick ≡ labelled "(plan (byte " byte ++ pick-end pick
+pub plan-parts : (byte head : ℕ) (pick : Pick) →
+    plan-line (record { byte = byte; head = head; pick = pick }) ≡ labelled "(plan (byte " byte ++ (labelled ") (head " head ++ pick-end pick)
 unfolding plan-line pick-text
-plan-parts byte by-urgency = regroup (text "(plan ") (field "byte" byte ∷ text " " ∷ pick-text by-urgency ∷ text ")\n" ∷ []) ∙ rw (field-then "byte" byte)
-plan-parts byte by-number = regroup (text "(plan ") (field "byte" byte ∷ text " " ∷ pick-text by-number ∷ text ")\n" ∷ []) ∙ rw (field-then "byte" byte)
+plan-parts byte head by-urgency =
+    regroup (text "(plan ") (field "byte" byte ∷ text " " ∷ field "head" head ∷ text " " ∷ pick-text by-urgency ∷ text ")\n" ∷ [])
+    ∙ rw (field-then "byte" byte, field-then "head" head)
+plan-parts byte head by-number =
+    regroup (text "(plan ") (field "byte" byte ∷ text " " ∷ field "head" head ∷ text " " ∷ pick-text by-number ∷ text ")\n" ∷ [])
+    ∙ rw (field-then "byte" byte, field-then "head" head)
 
 pub slot-parts : (s : Slot) → slot-line s ≡ labelled "(slot (node " (s .node) ++ (labelled ") (bytes " (s .bytes) ++ text "))\n")
 unfolding slot-line

@@ -7,14 +7,14 @@ use Rattle.model.specs.Text.{slot-line, process-line, condition-line, edge-line
 use Rattle.plan.specs.Memory.{lines}
 use Rattle.text_lines.specs.Put.{Counts}
 use Rattle.text_writer.proofs.ThinPut.{Part}
-use Rattle.text_writer.proofs.lines.put_head.Symbol as put-head
+use Rattle.text_writer.proofs.lines.put_plan_line.Symbol as put-plan-line
 use Rattle.text_writer.proofs.runs.put_slots.Symbol as put-slots
 use Rattle.text_writer.proofs.runs.put_processes.Symbol as put-processes
 use Rattle.text_writer.proofs.runs.put_conditions.Symbol as put-conditions
 use Rattle.text_writer.proofs.runs.put_edges.Symbol as put-edges
 
-abbrev pub head-part : Part
-head-part = record { put = put-head.name; Asks = λ n p. Counts n (plan-line (lines p .byte) (lines p .pick)); bytes = λ p. plan-line (lines p .byte) (lines p .pick) }
+abbrev pub plan-line-part : Part
+plan-line-part = record { put = put-plan-line.name; Asks = λ n p. Counts n (plan-line (lines p .plan)); bytes = λ p. plan-line (lines p .plan) }
 
 abbrev pub slots-part : Part
 slots-part = record { put = put-slots.name; Asks = λ n p. (p .slots ≤ NODES) × Counts n (each slot-line (lines p .slots)); bytes = λ p. each slot-line (lines p .slots) }

@@ -22,13 +22,13 @@ use Rattle.text_lines.specs.Put.{Counts}
 
 pub print-parts : (p : Lines) →
     print p
-    ≡ plan-line (p .byte) (p .pick) ++ (each slot-line (p .slots) ++ (each process-line (p .processes) ++ (each condition-line (p .conditions) ++ each edge-line (p .edges))))
+    ≡ plan-line (p .plan) ++ (each slot-line (p .slots) ++ (each process-line (p .processes) ++ (each condition-line (p .conditions) ++ each edge-line (p .edges))))
 unfolding print
 print-parts p = simp append-assoc
 
 pub counts-plan : (p : Plan) → plan-refusal (lines p) ≡ nothing →
     Counts 0 (
-    plan-line (lines p .byte) (lines p .pick)
+    plan-line (lines p .plan)
     ++ (each slot-line (lines p .slots) ++ (each process-line (lines p .processes) ++ (each condition-line (lines p .conditions) ++ each edge-line (lines p .edges))))
     )
 counts-plan p h = rw print-parts at (let c : Counts 0 (print (lines p)) = record { fits = omega (arith, print-length (lines p) h) } in c)

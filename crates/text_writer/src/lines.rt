@@ -12,15 +12,17 @@ ghost use Rattle.plan.specs.Memory.{lines, slot-of, process-of};
 ghost use Rattle.text_lines.specs.Put.{Counts, Put};
 
 // Puts the plan line.
-pub(crate) fn put_head(out: &mut [u8], at: usize, p: Plan) -> usize
-    requires { ⌜ Counts at (plan-line (lines p .byte) (lines p .pick)) ⌝ }
-    ensures { λ r. ⌜ Put (now (out .entry)) (now (out .exit)) at r (plan-line (lines p .byte) (lines p .pick)) ⌝ }
+pub(crate) fn put_plan_line(out: &mut [u8], at: usize, p: Plan) -> usize
+    requires { ⌜ Counts at (plan-line (lines p .plan)) ⌝ }
+    ensures { λ r. ⌜ Put (now (out .entry)) (now (out .exit)) at r (plan-line (lines p .plan)) ⌝ }
 {
-    let pick = p.pick;
-    let end = put_labelled(out, at, b"(plan (byte ", p.byte);
+    let line = p.line;
+    let byte = put_labelled(out, at, b"(plan (byte ", line.byte);
+    let head = put_labelled(out, byte, b") (head ", line.head);
+    let pick = line.pick;
     match pick {
-        Pick::Urgency => put_word(out, end, b") (pick urgency))\n"),
-        Pick::Number => put_word(out, end, b") (pick number))\n"),
+        Pick::Urgency => put_word(out, head, b") (pick urgency))\n"),
+        Pick::Number => put_word(out, head, b") (pick number))\n"),
     }
 }
 

@@ -1,6 +1,6 @@
 // The text of a plan: one line writer goes through the plan line and the lines of each kind.
 // Document 01: "The line writer holds the output bytes and how far they are filled."
-use crate::lines::put_head;
+use crate::lines::put_plan_line;
 use crate::runs::put_conditions;
 use crate::runs::put_edges;
 use crate::runs::put_processes;
@@ -20,12 +20,12 @@ ghost use Rattle.text_lines.specs.Line.{put-on};
 ghost use Rattle.text_lines.specs.Put.{Counts, Put};
 
 // The line writer once it has the plan line.
-fn head<'a>(w: Writer<'a>, p: Plan) -> Writer<'a>
-    requires { ⌜ Counts (w .at) (plan-line (lines p .byte) (lines p .pick)) ⌝ }
-    ensures { λ r. ⌜ r ≡ put-on (w .entry) (plan-line (lines p .byte) (lines p .pick)) ⌝ }
+fn plan_line<'a>(w: Writer<'a>, p: Plan) -> Writer<'a>
+    requires { ⌜ Counts (w .at) (plan-line (lines p .plan)) ⌝ }
+    ensures { λ r. ⌜ r ≡ put-on (w .entry) (plan-line (lines p .plan)) ⌝ }
 {
     let at = w.at;
-    let end = put_head(&mut *w.out, at, p);
+    let end = put_plan_line(&mut *w.out, at, p);
     Writer {
         out: w.out,
         at: end,
@@ -90,7 +90,7 @@ pub(crate) fn put_plan(out: &mut [u8], p: Plan) -> usize
     ensures { λ r. ⌜ Put (now (out .entry)) (now (out .exit)) 0 r (print (lines p)) ⌝ }
 {
     filled(edges(
-        conditions(processes(slots(head(start(out, 0), p), p), p), p),
+        conditions(processes(slots(plan_line(start(out, 0), p), p), p), p),
         p,
     ))
 }

@@ -39,6 +39,14 @@ fn outside(last: u64, random: &mut Random) -> u64 {
     random.one_of(&[0, last + 1, great])
 }
 
+/// A head above 16 bytes: by one, by some, with low bits that would be a head, or too great.
+fn long_head(random: &mut Random) -> u64 {
+    let some = random.between(18, 1_000);
+    let low_bits = random.between(0, 16) + random.one_of(&[32, 256, 65_536]);
+    let great = random.one_of(&TOO_GREAT);
+    random.one_of(&[17, some, low_bits, great])
+}
+
 fn break_counts(lines: &mut Lines, random: &mut Random) -> bool {
     match random.below(6) {
         0 => lines.slots.clear(),
@@ -75,7 +83,7 @@ fn break_counts(lines: &mut Lines, random: &mut Random) -> bool {
 }
 
 fn break_sizes(lines: &mut Lines, random: &mut Random) -> bool {
-    match random.below(4) {
+    match random.below(5) {
         0 if !lines.slots.is_empty() => {
             let slot = random.index(lines.slots.len());
             lines.slots[slot].bytes = outside(64, random);
@@ -88,7 +96,8 @@ fn break_sizes(lines: &mut Lines, random: &mut Random) -> bool {
             let process = random.index(lines.processes.len());
             lines.processes[process].ticks = outside(100_000, random);
         }
-        _ => lines.byte = outside(1_000, random),
+        3 => lines.plan.head = long_head(random),
+        _ => lines.plan.byte = outside(1_000, random),
     }
     true
 }
@@ -192,6 +201,7 @@ fn break_whens(lines: &mut Lines, random: &mut Random) -> bool {
     true
 }
 
+/// A message that is longer than its sender's slot, often not longer than the slot with its head.
 fn break_lengths(lines: &mut Lines, random: &mut Random) -> bool {
     let between_nodes: Vec<usize> = (0..lines.edges.len())
         .filter(|&e| !lines.local(e))
@@ -201,6 +211,8 @@ fn break_lengths(lines: &mut Lines, random: &mut Random) -> bool {
         return false;
     };
     let most = most_bytes(lines, lines.edges[edge].from, lines.edges[edge].to);
-    lines.edges[edge].bytes = random.between(most + 1, 64);
+    let with_head = most + lines.plan.head.max(1);
+    let longest = random.one_of(&[64, with_head.min(64)]);
+    lines.edges[edge].bytes = random.between(most + 1, longest);
     true
 }

@@ -5,14 +5,15 @@
 //! or the last process. Stage i's process takes 2^i times `APART` rounds, so that each of the 64
 //! combinations has the last process at a tick of its own. Behind it messages go from senders on
 //! node 0 to receivers on node 1. Slots and messages have 1 byte, so that an item has its frame for
-//! itself, and no combination shares a frame of these messages with another.
+//! itself whatever the head is, and no combination shares a frame of these messages with another.
 //!
 //! A message or a process behind stage i's process adds 2^i frames or entries, one behind the last
 //! process adds 64.
 
 use crate::plans::random_pick;
 use crate::random::Random;
-use reference::{Condition, Edge, Lines, Process, Slot, Waits, When};
+use reference::bus::round_ticks;
+use reference::{Condition, Edge, Lines, PlanLine, Process, Slot, Waits, When};
 
 /// The stages, each with a condition.
 const STAGES: u64 = 6;
@@ -36,8 +37,8 @@ const STARTS: u64 = 2 * BROADCASTS + COMBINATIONS * (SENDERS + RECEIVERS);
 /// The rounds by which combinations lie apart, more than the stages and all messages take.
 const APART: u64 = 90;
 
-/// The most ticks to a byte, so that no process exceeds 100,000.
-const MOST_BYTE: u64 = 17;
+/// The most ticks that a slot lasts, so that no process exceeds 100,000.
+const MOST_SLOT_TICKS: u64 = 17;
 
 /// The fewest frames that a plan of this form has: each receiver has an input.
 pub const FEWEST_FRAMES: u64 = BROADCASTS + COMBINATIONS * RECEIVERS;
@@ -85,13 +86,17 @@ fn stages_of(number: u64, optional: &[u64]) -> impl Iterator<Item = &u64> {
         .map(|(_, process)| process)
 }
 
-/// A plan of two slots of 1 byte in either order, with no process.
+/// A plan of two slots of 1 byte in either order, with no process. Its head is any.
 fn two_nodes(random: &mut Random) -> Lines {
     let mut nodes = [0, 1];
     random.shuffle(&mut nodes);
+    let head = random.between(0, 16);
     Lines {
-        byte: random.between(1, MOST_BYTE),
-        pick: random_pick(random),
+        plan: PlanLine {
+            byte: random.between(1, MOST_SLOT_TICKS / (1 + head)),
+            head,
+            pick: random_pick(random),
+        },
         slots: nodes.map(|node| Slot { node, bytes: 1 }).to_vec(),
         processes: Vec::new(),
         conditions: Vec::new(),
@@ -103,7 +108,7 @@ fn two_nodes(random: &mut Random) -> Lines {
 /// the process behind them all. Deciders take two rounds, so that what a stage sends is sent before
 /// the next value is told.
 fn add_stages(lines: &mut Lines) -> (Vec<u64>, u64) {
-    let round = 2 * lines.byte;
+    let round = round_ticks(lines);
     let mut optional = Vec::new();
     let mut decider = add_process(lines, 0, 2 * round, Waits::All);
     for stage in 0..STAGES {

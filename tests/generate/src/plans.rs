@@ -1,7 +1,7 @@
 //! Random plans in which refusals 2 to 9 find nothing.
 
 use crate::random::Random;
-use reference::{Condition, Edge, Lines, Pick, Process, Slot, Waits, When};
+use reference::{Condition, Edge, Lines, Pick, PlanLine, Process, Slot, Waits, When};
 
 /// The kinds of plans that are generated.
 #[derive(Clone, Copy, Debug, PartialEq, Eq)]
@@ -16,9 +16,9 @@ pub enum Kind {
     NestedAny,
     /// 8 slots, 64 processes, 128 edges, 6 conditions.
     Largest,
-    /// The longest round and long processes.
+    /// The longest slots, mostly with the longest head, and long processes.
     LongestRound,
-    /// Rounds of a few ticks, and processes both short and long.
+    /// Slots of one byte, often without a head, and processes both short and long.
     ShortestRound,
 }
 
@@ -45,6 +45,7 @@ pub fn plan(kind: Kind, random: &mut Random) -> Lines {
 /// The ranges that the numbers of a plan are drawn from, both ends included.
 struct Shape {
     byte: (u64, u64),
+    heads: Heads,
     slots: (u64, u64),
     slot_bytes: (u64, u64),
     processes: (u64, u64),
@@ -54,8 +55,34 @@ struct Shape {
     any_percent: u64,
 }
 
+/// In how many cases of a hundred a plan has no head, and in how many the longest. In the others
+/// its head is any.
+struct Heads {
+    none_percent: u64,
+    longest_percent: u64,
+}
+
+/// The bytes of the longest head.
+const LONGEST_HEAD: u64 = 16;
+
+const ANY_HEAD: Heads = Heads {
+    none_percent: 25,
+    longest_percent: 15,
+};
+
+const MOSTLY_LONGEST_HEAD: Heads = Heads {
+    none_percent: 5,
+    longest_percent: 75,
+};
+
+const OFTEN_NO_HEAD: Heads = Heads {
+    none_percent: 50,
+    longest_percent: 10,
+};
+
 const TINY: Shape = Shape {
     byte: (1, 3),
+    heads: ANY_HEAD,
     slots: (1, 3),
     slot_bytes: (1, 4),
     processes: (1, 6),
@@ -67,6 +94,7 @@ const TINY: Shape = Shape {
 
 const DENSE_BUS: Shape = Shape {
     byte: (1, 2),
+    heads: ANY_HEAD,
     slots: (2, 5),
     slot_bytes: (1, 6),
     processes: (6, 24),
@@ -78,6 +106,7 @@ const DENSE_BUS: Shape = Shape {
 
 const MANY_CONDITIONS: Shape = Shape {
     byte: (1, 5),
+    heads: ANY_HEAD,
     slots: (1, 6),
     slot_bytes: (1, 8),
     processes: (6, 24),
@@ -89,6 +118,7 @@ const MANY_CONDITIONS: Shape = Shape {
 
 const LARGEST: Shape = Shape {
     byte: (1, 1_000),
+    heads: ANY_HEAD,
     slots: (8, 8),
     slot_bytes: (1, 64),
     processes: (64, 64),
@@ -100,6 +130,7 @@ const LARGEST: Shape = Shape {
 
 const LONGEST_ROUND: Shape = Shape {
     byte: (1_000, 1_000),
+    heads: MOSTLY_LONGEST_HEAD,
     slots: (8, 8),
     slot_bytes: (64, 64),
     processes: (2, 20),
@@ -111,6 +142,7 @@ const LONGEST_ROUND: Shape = Shape {
 
 const SHORTEST_ROUND: Shape = Shape {
     byte: (1, 1),
+    heads: OFTEN_NO_HEAD,
     slots: (1, 3),
     slot_bytes: (1, 1),
     processes: (1, 16),
@@ -142,8 +174,7 @@ fn shaped(shape: &Shape, random: &mut Random) -> Lines {
     let processes = random_processes(shape, slots.len() as u64, random);
     let conditions = random_conditions(shape, processes.len() as u64, random);
     let mut lines = Lines {
-        byte: random.within(shape.byte),
-        pick: random_pick(random),
+        plan: random_plan_line(shape.byte, &shape.heads, random),
         slots,
         processes,
         conditions,
@@ -155,6 +186,29 @@ fn shaped(shape: &Shape, random: &mut Random) -> Lines {
         lines.edges.push(edge);
     }
     lines
+}
+
+/// The head is drawn apart: but for it, the plan of a seed is the one that it was before there were
+/// heads, so that what is measured can be compared.
+fn random_plan_line(byte: (u64, u64), heads: &Heads, random: &mut Random) -> PlanLine {
+    let byte = random.within(byte);
+    let mut apart = Random::new(random.clone().bits());
+    PlanLine {
+        byte,
+        head: random_head(heads, &mut apart),
+        pick: random_pick(random),
+    }
+}
+
+fn random_head(heads: &Heads, random: &mut Random) -> u64 {
+    let percent = random.below(100);
+    if percent < heads.none_percent {
+        0
+    } else if percent < heads.none_percent + heads.longest_percent {
+        LONGEST_HEAD
+    } else {
+        random.between(0, LONGEST_HEAD)
+    }
 }
 
 /// Either pick.
@@ -237,7 +291,8 @@ pub fn random_edge(lines: &Lines, from: u64, to: u64, random: &mut Random) -> Ed
     }
 }
 
-/// The most bytes that an edge may have: a local one 64, another those of its sender's slot.
+/// The most bytes that an edge may have: a local one 64, another those of its sender's slot, to
+/// which the head adds none.
 pub fn most_bytes(lines: &Lines, from: u64, to: u64) -> u64 {
     let sender = lines.node(from);
     if sender == lines.node(to) {
@@ -261,8 +316,7 @@ fn random_when(lines: &Lines, from: u64, random: &mut Random) -> When {
 /// A plan of branches within branches, each pair of which meets in an `any` process.
 fn nested(random: &mut Random) -> Lines {
     let mut lines = Lines {
-        byte: random.between(1, 3),
-        pick: random_pick(random),
+        plan: random_plan_line((1, 3), &ANY_HEAD, random),
         slots: random_slots(&MANY_CONDITIONS, random),
         processes: Vec::new(),
         conditions: Vec::new(),

@@ -289,7 +289,7 @@ fn damage_place(lines: &Lines, table: &[u32], random: &mut Random) -> Option<Vec
         .collect();
     let number = random.some_of(&items)?;
     let places = if random.percent(50) {
-        places_past_last(lines, &all[number])
+        places_past_last(lines, &all[number], random)
     } else {
         places_of_others(lines, &all, number)
     };
@@ -297,10 +297,14 @@ fn damage_place(lines: &Lines, table: &[u32], random: &mut Random) -> Option<Vec
     Some(words(&all))
 }
 
-fn places_past_last(lines: &Lines, item: &Entry) -> Vec<u64> {
+/// The places at which an item passes the last byte of its slot; or the first of them alone, as
+/// many as the head has bytes, at which it would not pass if the head were data.
+fn places_past_last(lines: &Lines, item: &Entry, random: &mut Random) -> Vec<u64> {
     let item_row = row(lines, item.row).unwrap();
     let slot = slot_of(lines, row_node(lines, item_row));
-    (lines.slots[slot].bytes - row_bytes(lines, item_row) + 1..64).collect()
+    let first = lines.slots[slot].bytes - row_bytes(lines, item_row) + 1;
+    let with_head = first + lines.plan.head.max(1);
+    (first..random.one_of(&[64, with_head.min(64)])).collect()
 }
 
 fn places_of_others(lines: &Lines, all: &[Entry], number: usize) -> Vec<u64> {

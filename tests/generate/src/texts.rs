@@ -24,6 +24,12 @@ fn damaged(what: &'static str, text: Vec<u8>, refusal: Option<u8>) -> Damaged {
 
 /// The printed form of a plan without refusal 2 to 9, damaged in every way.
 pub fn damaged_texts(lines: &Lines, random: &mut Random) -> Vec<Damaged> {
+    let mut all = damaged_anywhere(lines, random);
+    all.extend(damaged_heads(lines, random));
+    all
+}
+
+fn damaged_anywhere(lines: &Lines, random: &mut Random) -> Vec<Damaged> {
     let text = print(lines);
     vec![
         damaged("a byte flipped", flipped(&text, random), None),
@@ -83,6 +89,78 @@ pub fn damaged_texts(lines: &Lines, random: &mut Random) -> Vec<Damaged> {
         damaged("16,385 bytes", of_length(lines, 16_385), Some(1)),
         damaged("no text", Vec::new(), Some(1)),
     ]
+}
+
+/// The head part of the plan line left out, at another place, twice, or with another number.
+fn damaged_heads(lines: &Lines, random: &mut Random) -> Vec<Damaged> {
+    let parts = plan_parts(lines);
+    let [byte, head, pick] = [&*parts[0], &*parts[1], &*parts[2]];
+    let line = |parts: &[&str]| with_plan_line(lines, parts);
+    let with_head = |number: &str| line(&[byte, &format!("(head {number})"), pick]);
+    let some = random.between(17, 1_000_000).to_string();
+    let ten = random.between(1_000_000_000, 9_999_999_999).to_string();
+    let zeros = "0".repeat(random.between(1, 9) as usize);
+    vec![
+        damaged("no head", line(&[byte, pick]), Some(1)),
+        damaged("the head before byte", line(&[head, byte, pick]), Some(1)),
+        damaged("the head behind pick", line(&[byte, pick, head]), Some(1)),
+        damaged("the head twice", line(&[byte, head, head, pick]), Some(1)),
+        damaged(
+            "a head behind pick, too",
+            line(&[byte, head, pick, head]),
+            Some(1),
+        ),
+        damaged(
+            "the head in a slot line",
+            head_in_slot(lines, &line(&[byte, pick]), random),
+            Some(1),
+        ),
+        damaged(
+            "a head in a slot line, too",
+            head_in_slot(lines, &print(lines), random),
+            Some(1),
+        ),
+        damaged("a head without digits", with_head(""), Some(1)),
+        damaged(
+            "a head with needless zeros",
+            with_head(&format!("{zeros}{}", lines.plan.head)),
+            Some(1),
+        ),
+        damaged("a head of ten digits", with_head(&ten), Some(1)),
+        damaged("a head of nine digits", with_head("999999999"), Some(3)),
+        damaged("a head above 16", with_head(&some), Some(3)),
+        damaged("head 17", with_head("17"), Some(3)),
+        damaged("head 16", with_head("16"), None),
+    ]
+}
+
+/// The parts of a plan's plan line: `(byte 2)` and so on.
+fn plan_parts(lines: &Lines) -> Vec<String> {
+    let text = String::from_utf8(print(lines)).unwrap();
+    let line = text.lines().next().unwrap();
+    let parts = line.strip_prefix("(plan ").unwrap();
+    let parts = parts.strip_suffix(')').unwrap();
+    let parts = parts.split_inclusive(')').map(str::trim);
+    parts.map(str::to_string).collect()
+}
+
+/// The text of a plan with these parts in its plan line.
+fn with_plan_line(lines: &Lines, parts: &[&str]) -> Vec<u8> {
+    let text = print(lines);
+    let line = format!("(plan {})\n", parts.join(" "));
+    [line.as_bytes(), &split(&text)[1..].concat()].concat()
+}
+
+/// A text with the head of a plan in one of its slot lines, at any place.
+fn head_in_slot(lines: &Lines, text: &[u8], random: &mut Random) -> Vec<u8> {
+    let slot = random.index(lines.slots.len());
+    let mut all = split(text);
+    let line = String::from_utf8(all[1 + slot].to_vec()).unwrap();
+    let place = random.one_of(&[" (node", " (bytes", ")\n"]);
+    let head = format!(" (head {}){place}", lines.plan.head);
+    let line = line.replace(place, &head);
+    all[1 + slot] = line.as_bytes();
+    all.concat()
 }
 
 fn flipped(text: &[u8], random: &mut Random) -> Vec<u8> {

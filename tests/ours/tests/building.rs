@@ -253,7 +253,7 @@ fn cases_are_proved_or_not() {
     assert_eq!(ended.status, 0, "{ended:?}");
     assert_eq!(
         ended.printed,
-        b"the worked cases of document 01 are proved\n"
+        b"the worked cases of documents 01 and 02 are proved\n"
     );
     assert!(ended.said.contains("[2/2] model\n"), "{ended:?}");
     assert_eq!(calls(&tree), ["check model"]);

@@ -16,6 +16,7 @@ use reference::lookup::little_endian_words;
 use reference::table::{entries, words, Entry, ENTRY_WORDS};
 use reference::{check, print, read, Lines, When};
 use suite::cases::{self, packing};
+use suite::heads::{s_with_head, CHANGES_WITH_HEAD_1};
 use suite::{bus, for_plans, planned, s, With, FEW, S};
 
 /// Of a thousand of the plans that the tests go by, of how many tables are checked.
@@ -296,15 +297,41 @@ fn the_changed_tables_of_s() {
     assert_eq!(check_table(S.as_bytes(), &[], 34), refused(14));
 }
 
-/// "place 2 for the third: 19."
+/// The same with a head: arrivals and beginnings are those of the longer slots, places those of the
+/// data.
 #[test]
-fn the_packing_case_with_place_2_for_the_third() {
-    let text = print(&packing());
-    let mut all = entries(&planned(&packing()).words);
-    assert_eq!(check_table(&text, &bytes(&words(&all)), 16), ACCEPTED);
-    let third = all.iter().position(|e| e.row == 6).expect("its row");
-    all[third].place = 2;
-    assert_eq!(check_table(&text, &bytes(&words(&all)), 16), refused(19));
+fn the_changed_tables_of_s_with_head_1() {
+    let text = s_with_head(1);
+    let table = planned(&s().head(1)).words;
+    let check = |words: &[u32], delay| check_table(text.as_bytes(), &bytes(words), delay);
+    assert_eq!(check(&table, 50), ACCEPTED);
+    assert_eq!(check(&table, 49), refused(20));
+    for (number, (entry, change, refusal)) in CHANGES_WITH_HEAD_1.into_iter().enumerate() {
+        let mut all = entries(&table);
+        change(&mut all[entry]);
+        let wanted = match refusal {
+            0 => ACCEPTED,
+            refusal => refused(refusal),
+        };
+        assert_eq!(check(&words(&all), 50), wanted, "change {number}");
+    }
+}
+
+/// "place 2 for the third: 19." With a head as well, and so is a place behind the slot's data.
+#[test]
+fn the_packing_case_with_another_place_for_the_third() {
+    for (head, delay) in [(0, 16), (1, 21), (16, 96)] {
+        let lines = packing().head(head);
+        let text = print(&lines);
+        let mut all = entries(&planned(&lines).words);
+        assert_eq!(check_table(&text, &bytes(&words(&all)), delay), ACCEPTED);
+        let third = all.iter().position(|e| e.row == 6).expect("its row");
+        for place in [0, 2, 4, 5, 19, 63] {
+            all[third].place = place;
+            let answer = check_table(&text, &bytes(&words(&all)), delay);
+            assert_eq!(answer, refused(19), "head {head}, place {place}");
+        }
+    }
 }
 
 /// "Processes of 1 and 5 ticks on one node: [...] both at 0: 18."

@@ -110,6 +110,17 @@ fn a_refusal_has_status_1_and_its_sentence() {
     assert!(numbers.len() >= 8, "{numbers:?}");
 }
 
+/// A text from before the head is refused, and it is said that the head is missing.
+#[test]
+fn a_text_without_a_head_is_refused() {
+    let tree = Tree::new("no head");
+    let text = S.replacen(" (head 0)", "", 1);
+    let ended = tree.fed(tree.call(&["plan"]), text.as_bytes());
+    assert_eq!(refused(&ended, text.as_bytes(), true), "1");
+    let says = "from column 17 on, expected \"head\"\n";
+    assert!(ended.said.contains(says), "{ended:?}");
+}
+
 /// The script that says where a text fails is called with the number and the text, for 1 to 9.
 #[test]
 fn a_refused_text_is_looked_at() {

@@ -100,7 +100,7 @@ fn short_texts_of_any_bytes() {
         let text: Vec<u8> = (0..length).map(|_| random.bits() as u8).collect();
         same_copy(&text, 40);
     }
-    let line = b"(plan (byte 1) (pick urgency))\n";
+    let line = b"(plan (byte 1) (head 1) (pick urgency))\n";
     for end in 0..line.len() {
         same_copy(&line[..end], 40);
     }

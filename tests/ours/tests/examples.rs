@@ -12,7 +12,8 @@ use ours::archive::{check_table, plan_listing, plan_table, refused, ACCEPTED};
 use ours::comparing::bytes;
 use ours::firmware::{build, letters};
 use ours::linking::root;
-use reference::table::{frames, ENTRY_WORDS, FRAME_WORDS};
+use reference::bus::round_ticks;
+use reference::table::{entries, frames, ENTRY_WORDS, FRAME_WORDS};
 use reference::who_runs::{combinations, value, Combination};
 use reference::{print, read, Lines, Pick, Planned, Waits, When};
 use suite::drawing::compare;
@@ -361,43 +362,122 @@ fn station() -> Lines {
 fn the_largest_is_as_its_tables_say() {
     let largest = example("largest");
     assert!(print(&station()) == largest.text);
-    assert_eq!(largest.lines.pick, Pick::Number);
+    assert_eq!(largest.lines.plan.pick, Pick::Number);
+}
+
+/// Panics unless the page has these sentences.
+fn page_says(sentences: &[String]) {
+    let page = page();
+    for sentence in sentences {
+        assert!(page.contains(sentence), "{sentence}");
+    }
+}
+
+/// Ticks of 100 microseconds as milliseconds.
+fn milliseconds(ticks: u64) -> f64 {
+    ticks as f64 / 10.0
 }
 
 /// The sentences of the page that name delays.
 #[test]
 fn the_page_says_what_each_combination_takes() {
     let [s, feeder, largest] = ["s", "feeder", "largest"].map(example);
-    let delays = &feeder.planned.delays;
-    let (worst, milliseconds) = (feeder.planned.delay, feeder.planned.delay as f64 / 10.0);
-    assert_eq!(feeder.worst(), [7, 15]);
-    let mut faster = feeder.lines.clone();
-    faster.processes[12].ticks = 22;
-    let helped = planned(&faster).delay;
-    faster.processes[12].ticks = 23;
-    assert_eq!(planned(&faster).delay, worst);
-    let sentences = [
+    let (worst, delays) = (feeder.planned.delay, &feeder.planned.delays);
+    assert_eq!(feeder.worst(), [5, 7, 13, 15]);
+    for combination in combinations(&feeder.lines) {
+        let (fault, failed) = (value(combination, 0), value(combination, 2));
+        let like = usize::from(fault) + 4 * usize::from(fault && failed);
+        assert_eq!(delays[combination as usize], delays[like]);
+    }
+    page_says(&[
         format!(
             "where it is false, everything ends at {}.",
             s.planned.delays[0]
         ),
         format!("# {worst}, the worst delay"),
         format!("target/feeder.table {worst}   # accepted"),
-        format!("The delay is {worst} ticks, {milliseconds} ms, in combinations 7 and 15:"),
+        format!(
+            "The delay is {worst} ticks, {} ms, in combinations 5, 7, 13 and 15:",
+            milliseconds(worst)
+        ),
         format!("Without a fault everything ends at {}.", delays[0]),
         format!(
-            "ends at {}, or with an earth fault at {}.",
-            delays[1], delays[3]
+            "With a fault that the feeder breaker clears, it ends at {}.",
+            delays[1]
         ),
-        format!("and the worst\ndelay is {helped}."),
         format!("The delay is {} ticks, 21 ms,", largest.planned.delay),
         format!(
             "goes at 164, and everything ends at {}.",
             largest.planned.delays[0]
         ),
-    ];
-    let page = page();
-    for sentence in sentences {
-        assert!(page.contains(&sentence), "{sentence}");
+    ]);
+}
+
+/// The feeder's trip order is message 15; process 12 looks for the direction of an earth fault.
+#[test]
+fn the_page_says_how_long_process_12_may_take() {
+    let feeder = example("feeder");
+    let with_ticks = |ticks| {
+        let mut lines = feeder.lines.clone();
+        lines.processes[12].ticks = ticks;
+        lines
+    };
+    let orders = |lines: &Lines| -> Vec<u64> {
+        let row = lines.processes.len() as u32 + 15;
+        let all = entries(&planned(lines).words).into_iter();
+        all.filter(|e| e.row == row)
+            .map(|e| e.tick.into())
+            .collect()
+    };
+    let order = orders(&feeder.lines)[0];
+    assert_eq!(orders(&feeder.lines), [order, order]);
+    for ticks in 1..=42 {
+        assert_eq!(planned(&with_ticks(ticks)).delays, feeder.planned.delays);
     }
+    let later = with_ticks(43);
+    assert_eq!(orders(&later), [order, order + round_ticks(&later)]);
+    page_says(&[
+        format!("the trip order goes at {order} with both kinds of fault."),
+        "Process 12 may take up to 42 ticks, and no delay changes.".to_string(),
+        format!(
+            "With 43 an earth fault's trip order goes a round later, and the worst delay is {}.",
+            planned(&later).delay
+        ),
+    ]);
+}
+
+/// The sentences of the page that name heads and rounds.
+#[test]
+fn the_page_says_what_the_head_costs() {
+    let feeder = example("feeder");
+    let (round, head) = (round_ticks(&feeder.lines), feeder.lines.plan.head);
+    let bytes: u64 = feeder.lines.slots.iter().map(|slot| slot.bytes).sum();
+    let without = feeder.lines.clone().head(0);
+    let less = feeder.planned.delay - planned(&without).delay;
+    let largest = example("largest").lines;
+    let with_longest = largest.clone().head(16);
+    let planned_with_longest = planned(&with_longest);
+    let delay = planned_with_longest.delay;
+    assert!(planned_with_longest.delays.iter().all(|&d| d == delay));
+    page_says(&[
+        format!("- The head is {head} bytes:"),
+        format!("- A round has {round} ticks, {} ms:", milliseconds(round)),
+        format!("the six slots have {bytes} bytes, and each lasts {head} ticks more for the head."),
+        format!(
+            "With `(head 0)` a round has {} ticks and the worst delay is {}: {} ms less",
+            round_ticks(&without),
+            planned(&without).delay,
+            milliseconds(less)
+        ),
+        format!(
+            "a slot of 4 bytes: a round has {} ticks.",
+            round_ticks(&largest)
+        ),
+        format!(
+            "With `(head 16)` a round has {} ticks, every combination has the delay {delay}, \
+             and the table has {} entries.",
+            round_ticks(&with_longest),
+            planned_with_longest.words.len() / ENTRY_WORDS
+        ),
+    ]);
 }

@@ -15,11 +15,11 @@ use generate::{plan, Kind, Random, KINDS};
 use ours::comparing::{bytes, count, Shares};
 use ours::firmware::{build, letters};
 use reference::lookup::{first_entry, Question};
-use reference::table::row_number;
+use reference::table::{entries, row_number, words};
 use reference::who_runs::combinations;
 use reference::{print, run, Lines};
 use suite::cases::{packing, s_with_a_long_message};
-use suite::{full_times, planned, random_times, s, S};
+use suite::{full_times, planned, random_times, s, With, S};
 
 /// Of a thousand of the plans that the tests go by, how many are run.
 const SHARES: Shares = [
@@ -179,12 +179,32 @@ fn same_runs(files: &Files, lines: &Lines, words: &[u32], random: &mut Random) -
 fn runs_of_s() {
     let files = Files::new("runs-of-s");
     let mut random = Random::new(71);
-    let words = planned(&s()).words;
-    let mut starts = 0;
-    for _ in 0..20 {
-        starts += same_runs(&files, &s(), &words, &mut random);
+    for head in [0, 1, 16] {
+        let lines = s().head(head);
+        let words = planned(&lines).words;
+        let mut starts = 0;
+        for _ in 0..20 {
+            starts += same_runs(&files, &lines, &words, &mut random);
+        }
+        assert_eq!(starts, 20 * 2 * (3 + 3));
     }
-    assert_eq!(starts, 20 * 2 * (3 + 3));
+}
+
+/// A start before the slot of its input or of its value has ended: one starts too early, the other
+/// not at all.
+#[test]
+fn runs_of_s_with_head_1_a_tick_too_early() {
+    let files = Files::new("runs-of-s-too-early");
+    let mut random = Random::new(75);
+    let lines = s().head(1);
+    for (entry, tick, starts) in [(2, 17, 3 + 2), (4, 47, 3 + 3)] {
+        let mut all = entries(&planned(&lines).words);
+        all[entry].tick = tick;
+        assert_eq!(
+            same_runs(&files, &lines, &words(&all), &mut random),
+            2 * starts
+        );
+    }
 }
 
 #[test]
@@ -273,33 +293,34 @@ fn runs_with_a_second_start() {
 fn runs_to_the_last_tick() {
     let files = Files::new("runs-to-the-last-tick");
     let mut random = Random::new(73);
-    let last = to_the_last_tick(
-        &s(),
-        &Table {
-            words: planned(&s()).words,
-            delay: 34,
-        },
-    );
-    let last = last.expect("room").words;
-    assert_eq!(same_runs(&files, &s(), &last, &mut random), 2 * (3 + 3));
-    for tick in [
-        999_999_994,
-        999_999_995,
-        999_999_996,
-        999_999_999,
-        1_000_000_000,
-    ] {
-        #[rustfmt::skip]
-        let told = [
-            0, 0, 0, 0, 0,
-            8, 0, 0, tick, 0,
-            1, 1, 1, tick + 4, 0,
-            2, 1, 0, 999_999_999, 0,
-            3, 0, 0, 999_999_999, 0,
-        ];
-        let starts = same_runs(&files, &s(), &told, &mut random);
-        let heard = usize::from(tick + 4 <= 999_999_999);
-        assert_eq!(starts, 2 * (2 * 2 + 2 * heard));
+    for (head, slot_ticks) in [(0, 4), (1, 6), (16, 36)] {
+        let lines = s().head(head);
+        let planned = planned(&lines);
+        let table = Table {
+            words: planned.words,
+            delay: planned.delay,
+        };
+        let last = to_the_last_tick(&lines, &table).expect("room").words;
+        assert_eq!(same_runs(&files, &lines, &last, &mut random), 2 * (3 + 3));
+        for tick in [
+            999_999_998 - slot_ticks,
+            999_999_999 - slot_ticks,
+            1_000_000_000 - slot_ticks,
+            999_999_999,
+            1_000_000_000,
+        ] {
+            #[rustfmt::skip]
+            let told = [
+                0, 0, 0, 0, 0,
+                8, 0, 0, tick, 0,
+                1, 1, 1, tick + slot_ticks, 0,
+                2, 1, 0, 999_999_999, 0,
+                3, 0, 0, 999_999_999, 0,
+            ];
+            let starts = same_runs(&files, &lines, &told, &mut random);
+            let heard = usize::from(tick + slot_ticks <= 999_999_999);
+            assert_eq!(starts, 2 * (2 * 2 + 2 * heard));
+        }
     }
 }
 

@@ -16,7 +16,8 @@ use reference::lookup::c_lookup;
 use reference::table::{entries, row, row_node, Entry};
 use reference::{print, Lines};
 use suite::cases::too_many_entries;
-use suite::{for_plans, planned, s, FEW, S};
+use suite::heads::{s_with_head, s_with_plan_line, WRONG_PLAN_LINES};
+use suite::{for_plans, planned, s, With, FEW, S};
 
 /// Of a thousand of the plans that the tests go by, for how many questions are asked.
 const SHARES: Shares = [
@@ -224,13 +225,14 @@ fn questions_about_plans_that_are_refused() {
     assert!(tally.refused[1..].iter().all(|&count| count >= 500));
 }
 
-/// Every question about S with a node, a tick, heard bits and values at most one past what S has.
-#[test]
-fn every_question_about_s() {
+/// Every question about S with a head, with a node, a tick, heard bits and values at most one past
+/// what S has.
+fn every_question(head: u64, last_tick: u32) {
     let mut tally = Tally::default();
-    let table = bytes(&planned(&s()).words);
+    let text = s_with_head(head);
+    let table = bytes(&planned(&s().head(head)).words);
     for node in 0..=2 {
-        for tick in 0..=34 {
+        for tick in 0..=last_tick {
             for bits in 0..16 {
                 for first in 0..=9 {
                     let (heard, values) = (bits % 4, bits / 4);
@@ -241,13 +243,44 @@ fn every_question_about_s() {
                         values,
                         first,
                     };
-                    same(S.as_bytes(), &table, asked, &mut tally);
+                    same(text.as_bytes(), &table, asked, &mut tally);
                 }
             }
         }
     }
     println!("{} questions: {tally:?}", tally.total());
     assert!(tally.first > 0 && tally.later > 0 && tally.none > 0);
+}
+
+#[test]
+fn every_question_about_s() {
+    every_question(0, 34);
+}
+
+#[test]
+fn every_question_about_s_with_head_1() {
+    every_question(1, 50);
+}
+
+/// The lookup is given the text, and refuses one whose head is missing or above 16.
+#[test]
+fn questions_about_s_with_a_wrong_head() {
+    let mut tally = Tally::default();
+    let table = bytes(&planned(&s()).words);
+    let mut texts = WRONG_PLAN_LINES.map(s_with_plan_line).to_vec();
+    texts.extend([17, 999_999_999].map(s_with_head));
+    for text in texts {
+        let asked = Question {
+            node: 0,
+            tick: 0,
+            heard: 0,
+            values: 0,
+            first: 0,
+        };
+        same(text.as_bytes(), &table, asked, &mut tally);
+    }
+    let wanted = (WRONG_PLAN_LINES.len() as u64, 2);
+    assert_eq!((tally.refused[1], tally.refused[3]), wanted);
 }
 
 /// A unit asks from entry 0 on and then one past each answer, and is given every entry of its node

@@ -13,7 +13,8 @@ use ours::archive::{plan_listing, plan_table, refused};
 use ours::comparing::{bytes, count, random_bytes, Lent, Shares};
 use reference::listing::{refuse_listing, PROGRAM_FRAME_WORDS, PROGRAM_WORDS};
 use reference::{list_plan, listing, print, read, Lines, Planned};
-use suite::{about_the_room, cases, for_plans, planned, FEW, S, S_LISTING};
+use suite::heads::{s_with_head, s_with_plan_line, PACKING_LISTINGS, S_LISTINGS, WRONG_PLAN_LINES};
+use suite::{about_the_room, cases, for_plans, planned, With, FEW, S, S_LISTING};
 
 /// Of a thousand random plans, how many are of each kind. They add up to a thousand.
 const SHARES: Shares = [
@@ -258,6 +259,44 @@ fn every_case_with_totals_of_every_length() {
                 wanted.same_table((table, frames, totals), &mut random);
             }
         }
+    }
+}
+
+/// Asserts that the archive's listing of a text is this one, or a refusal.
+fn lists(text: &[u8], listing: Result<&str, u8>) {
+    let mut out = vec![0; 1_000];
+    let answer = plan_listing(text, &mut out);
+    let (wanted, written) = match listing {
+        Err(number) => (refused(number), ""),
+        Ok(listing) => (listing.len() as u64, listing),
+    };
+    let shown = String::from_utf8_lossy(text);
+    assert_eq!(answer, wanted, "{shown}");
+    assert_eq!(&out[..written.len()], written.as_bytes(), "{shown}");
+}
+
+/// Document 02: "S with head 0 prints the listing of document 01, and for other heads tables are
+/// compared with the planning rules over the longer slots." "Capacity and places still count data
+/// only." "Figures above 16 meet refusal 3."
+#[test]
+fn listings_by_head() {
+    for (head, listing) in S_LISTINGS {
+        lists(s_with_head(head).as_bytes(), Ok(listing));
+    }
+    for (head, listing) in PACKING_LISTINGS {
+        lists(&print(&cases::packing().head(head)), Ok(listing));
+    }
+    for head in [17, 32, 256, 65_536, 999_999_999] {
+        lists(s_with_head(head).as_bytes(), Err(3));
+    }
+    lists(&print(&cases::s_with_a_long_message().head(16)), Err(9));
+}
+
+/// "A plan text without a part that this or a later point adds is no longer of the form".
+#[test]
+fn plan_lines_that_are_not_of_the_form() {
+    for line in WRONG_PLAN_LINES {
+        lists(s_with_plan_line(line).as_bytes(), Err(1));
     }
 }
 

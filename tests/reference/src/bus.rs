@@ -7,9 +7,9 @@ pub fn slot_of(lines: &Lines, node: u64) -> usize {
     lines.slots.iter().position(|s| s.node == node).unwrap()
 }
 
-/// "A slot lasts bytes × byte ticks".
+/// Document 02: "a slot lasts (bytes + head) × byte ticks."
 pub fn slot_ticks(lines: &Lines, slot: usize) -> u64 {
-    lines.slots[slot].bytes * lines.byte
+    (lines.slots[slot].bytes + lines.plan.head) * lines.plan.byte
 }
 
 /// The ticks that the slot of a node lasts.

@@ -233,7 +233,8 @@ fn processes_overlap(course: &Course) -> bool {
 }
 
 /// "19. Two items of a frame share a byte, or one passes the slot's last byte." The items of a
-/// frame are those of one node at one tick.
+/// frame are those of one node at one tick. Document 02: "Capacity and places still count data
+/// only."
 fn wrong_places(course: &Course) -> bool {
     let lines = course.lines;
     let items = course.items();

@@ -1,6 +1,6 @@
 //! Where a refused text fails: the first line at which the sentence of its refusal does.
 
-use crate::lines::{Condition, Edge, Lines, Process, Slot};
+use crate::lines::{Condition, Edge, Lines, PlanLine, Process, Slot};
 use crate::text::{read, read_any_length, LONGEST_TEXT};
 
 /// Where a text fails.
@@ -67,8 +67,8 @@ fn line_ends(text: &[u8]) -> Vec<usize> {
 
 /// Lines of every kind.
 const LINES: [&str; 9] = [
-    "(plan (byte 1) (pick urgency))\n",
-    "(plan (byte 1) (pick number))\n",
+    "(plan (byte 1) (head 1) (pick urgency))\n",
+    "(plan (byte 1) (head 1) (pick number))\n",
     "(slot (node 1) (bytes 1))\n",
     "(process (node 1) (ticks 1) (waits all))\n",
     "(process (node 1) (ticks 1) (waits any))\n",
@@ -124,7 +124,7 @@ fn counts(lines: &Lines) -> Option<Place> {
 
 /// A line of a plan.
 enum Line {
-    Plan(u64),
+    Plan(PlanLine),
     Slot(Slot),
     Process(Process),
     Condition(Condition),
@@ -133,7 +133,7 @@ enum Line {
 
 /// "Line kinds stand in the order of this example".
 fn in_order(lines: &Lines) -> Vec<Line> {
-    let mut all = vec![Line::Plan(lines.byte)];
+    let mut all = vec![Line::Plan(lines.plan)];
     all.extend(lines.slots.iter().copied().map(Line::Slot));
     all.extend(lines.processes.iter().copied().map(Line::Process));
     all.extend(lines.conditions.iter().copied().map(Line::Condition));
@@ -165,10 +165,10 @@ fn first_shared<K: PartialEq>(lines: &Lines, key: impl Fn(Line) -> Option<K>) ->
 }
 
 /// "3. `byte` is outside 1 to 1,000, slot or edge bytes outside 1 to 64, or ticks outside 1 to
-/// 100,000."
+/// 100,000." Document 02, of the head: "Figures above 16 meet refusal 3."
 fn sizes(lines: &Lines) -> Option<Place> {
     first(lines, |line| match line {
-        Line::Plan(byte) => !(1..=1_000).contains(&byte),
+        Line::Plan(plan) => !(1..=1_000).contains(&plan.byte) || plan.head > 16,
         Line::Slot(slot) => !(1..=64).contains(&slot.bytes),
         Line::Process(process) => !(1..=100_000).contains(&process.ticks),
         Line::Condition(_) => false,

@@ -1,7 +1,8 @@
-//! Document 01 in plain Rust, sentence by sentence.
+//! Document 01 with point 1 of document 02 in plain Rust, sentence by sentence.
 //!
-//! Every function stands under the sentence of document 01 that it says again. Nothing here is
-//! made to be fast: the crate is the measure that other implementations are compared with.
+//! Every function stands under the sentence of document 01 that it says again, or of document 02,
+//! which is then named. Nothing here is made to be fast: the crate is the measure that other
+//! implementations are compared with.
 
 pub mod bus;
 pub mod check;
@@ -18,7 +19,7 @@ pub mod who_runs;
 
 pub use check::check;
 pub use failing::{failing, Failing};
-pub use lines::{Condition, Edge, Lines, Pick, Process, Slot, Waits, When};
+pub use lines::{Condition, Edge, Lines, Pick, PlanLine, Process, Slot, Waits, When};
 pub use listing::{list_plan, listing, program, refused};
 pub use lookup::{c_lookup, lookup, row_query, Answer};
 pub use planner::{plan, Planned};

@@ -6,10 +6,8 @@
 /// stand; slots stand in bus order. The numbers may be any, also ones that are refused.
 #[derive(Clone, Debug, PartialEq, Eq)]
 pub struct Lines {
-    /// Ticks per byte on the bus.
-    pub byte: u64,
-    /// What goes first among several that could go.
-    pub pick: Pick,
+    /// The plan line.
+    pub plan: PlanLine,
     /// The slots of a round, in bus order.
     pub slots: Vec<Slot>,
     /// The processes.
@@ -18,6 +16,18 @@ pub struct Lines {
     pub conditions: Vec<Condition>,
     /// The edges.
     pub edges: Vec<Edge>,
+}
+
+/// The plan line.
+#[derive(Clone, Copy, Debug, PartialEq, Eq)]
+pub struct PlanLine {
+    /// Ticks per byte on the bus.
+    pub byte: u64,
+    /// The bytes that each frame has beside its data. Document 02: "The plan line gains `(head 0)`,
+    /// 0 to 16 bytes, after byte".
+    pub head: u64,
+    /// What goes first among several that could go.
+    pub pick: Pick,
 }
 
 /// "`pick` is `urgency` or `number`".
@@ -34,7 +44,8 @@ pub enum Pick {
 pub struct Slot {
     /// The node that sends in this slot.
     pub node: u64,
-    /// The bytes of data that the slot holds.
+    /// The bytes of data that the slot holds, without the head. Document 02: "Capacity and places
+    /// still count data only."
     pub bytes: u64,
 }
 

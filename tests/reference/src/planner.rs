@@ -264,7 +264,7 @@ impl<'a> Course<'a> {
 
     /// What is least for the process that goes first.
     fn process_order(&self, process: usize) -> (std::cmp::Reverse<u64>, usize) {
-        match self.lines.pick {
+        match self.lines.plan.pick {
             Pick::Urgency => (std::cmp::Reverse(self.urgency[process]), process),
             Pick::Number => (std::cmp::Reverse(0), process),
         }
@@ -272,7 +272,7 @@ impl<'a> Course<'a> {
 
     /// "At its beginning a slot takes items of its node ready by that tick." "An item that does
     /// not fit the bytes left is passed over and the next is tried. Items lie side by side from
-    /// byte 0."
+    /// byte 0." Document 02: "Capacity and places still count data only."
     fn begin_slot(&mut self, tick: u64) {
         let Some(slot) = slot_that_begins(self.lines, tick) else {
             return;
@@ -325,7 +325,7 @@ impl<'a> Course<'a> {
     /// What is least for the message that goes first.
     fn message_order(&self, edge: usize) -> (std::cmp::Reverse<u64>, usize) {
         let receiver = self.lines.edges[edge].to as usize;
-        match self.lines.pick {
+        match self.lines.plan.pick {
             Pick::Urgency => (std::cmp::Reverse(self.urgency[receiver]), edge),
             Pick::Number => (std::cmp::Reverse(0), edge),
         }

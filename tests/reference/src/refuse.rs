@@ -33,9 +33,10 @@ fn wrong_counts(lines: &Lines) -> bool {
 }
 
 /// "3. `byte` is outside 1 to 1,000, slot or edge bytes outside 1 to 64, or ticks outside 1 to
-/// 100,000."
+/// 100,000." Document 02, of the head: "Figures above 16 meet refusal 3."
 fn wrong_sizes(lines: &Lines) -> bool {
-    !(1..=1_000).contains(&lines.byte)
+    !(1..=1_000).contains(&lines.plan.byte)
+        || lines.plan.head > 16
         || lines.slots.iter().any(|s| !(1..=64).contains(&s.bytes))
         || lines.edges.iter().any(|e| !(1..=64).contains(&e.bytes))
         || lines
@@ -81,7 +82,8 @@ fn undecided_whens(lines: &Lines) -> bool {
     })
 }
 
-/// "9. A message between nodes is longer than its sender's slot."
+/// "9. A message between nodes is longer than its sender's slot." Document 02: "Capacity and places
+/// still count data only."
 fn too_long_messages(lines: &Lines) -> bool {
     (0..lines.edges.len()).any(|edge| {
         let sender = lines.node(lines.edges[edge].from);

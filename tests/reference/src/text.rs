@@ -1,6 +1,6 @@
 //! The plan text: its printed form, reading and writing.
 
-use crate::lines::{Condition, Edge, Lines, Pick, Process, Slot, Waits, When};
+use crate::lines::{Condition, Edge, Lines, Pick, PlanLine, Process, Slot, Waits, When};
 use crate::refuse::refuse_plan;
 
 /// "The text exceeds 16,384 bytes": the longest text that does not.
@@ -13,7 +13,7 @@ pub const MOST_DIGITS: usize = 9;
 /// line feed". "Line kinds stand in the order of this example".
 pub fn print(lines: &Lines) -> Vec<u8> {
     let mut text = String::new();
-    text += &print_plan_line(lines);
+    text += &print_plan_line(&lines.plan);
     for slot in &lines.slots {
         text += &print_slot(slot);
     }
@@ -29,12 +29,16 @@ pub fn print(lines: &Lines) -> Vec<u8> {
     text.into_bytes()
 }
 
-fn print_plan_line(lines: &Lines) -> String {
-    let pick = match lines.pick {
+/// Document 02: "The plan line gains `(head 0)` [...] after byte".
+fn print_plan_line(plan: &PlanLine) -> String {
+    let pick = match plan.pick {
         Pick::Urgency => "urgency",
         Pick::Number => "number",
     };
-    format!("(plan (byte {}) (pick {}))\n", lines.byte, pick)
+    format!(
+        "(plan (byte {}) (head {}) (pick {}))\n",
+        plan.byte, plan.head, pick
+    )
 }
 
 fn print_slot(slot: &Slot) -> String {
@@ -118,10 +122,8 @@ pub fn read_any_length(text: &[u8]) -> Option<Lines> {
 /// "There is one plan line; slots stand in bus order. Processes, conditions and edges are numbered
 /// from 0 in the order they stand."
 fn read_lines(rest: &mut Rest) -> Option<Lines> {
-    let (byte, pick) = read_plan_line(rest)?;
     Some(Lines {
-        byte,
-        pick,
+        plan: read_plan_line(rest)?,
         slots: read_all(rest, "(slot ", read_slot)?,
         processes: read_all(rest, "(process ", read_process)?,
         conditions: read_all(rest, "(condition ", read_condition)?,
@@ -142,13 +144,17 @@ fn read_all<T>(
     Some(found)
 }
 
-fn read_plan_line(rest: &mut Rest) -> Option<(u64, Pick)> {
+/// Document 02: "A plan text without a part that this or a later point adds is no longer of the
+/// form".
+fn read_plan_line(rest: &mut Rest) -> Option<PlanLine> {
     rest.expect("(plan (byte ")?;
     let byte = rest.number()?;
+    rest.expect(") (head ")?;
+    let head = rest.number()?;
     rest.expect(") (pick ")?;
     let pick = rest.one_of(&[("urgency", Pick::Urgency), ("number", Pick::Number)])?;
     rest.expect("))\n")?;
-    Some((byte, pick))
+    Some(PlanLine { byte, head, pick })
 }
 
 fn read_slot(rest: &mut Rest) -> Option<Slot> {

@@ -1,4 +1,5 @@
-//! The plans of the cases that document 01 prints, and of the tests of our readings of it.
+//! The plans of the cases that document 01 prints, with document 02's parts, and of the tests of
+//! our readings of both.
 
 use crate::{bus, s, With};
 use reference::{Lines, When};
@@ -307,8 +308,17 @@ pub fn all() -> Vec<(&'static str, Lines)> {
         ("S with process 0 at 8 ticks", s_with_first_ticks(8)),
         ("S with process 0 at 9 ticks", s_with_first_ticks(9)),
         ("S with its third edge at 3 bytes", s_with_a_long_message()),
+        ("S with head 1", s().head(1)),
+        ("S with head 16", s().head(16)),
+        ("S with head 17", s().head(17)),
+        (
+            "S with its third edge at 3 bytes and head 16",
+            s_with_a_long_message().head(16),
+        ),
         ("one process alone", alone()),
         ("packing", packing()),
+        ("packing with head 1", packing().head(1)),
+        ("packing with head 16", packing().head(16)),
         ("1 and 5 ticks", one_and_five_ticks()),
         ("1 and 5 ticks, by number", one_and_five_ticks().by_number()),
         ("ready as the slot begins", ready_as_the_slot_begins()),

@@ -1,17 +1,18 @@
-//! What the tests share: document 01's example, short ways to write plans, the plans of its cases,
-//! random inputs, and pictures that are compared with their tables.
+//! What the tests share: document 01's example with document 02's parts, short ways to write plans,
+//! the plans of the cases, random inputs, and pictures that are compared with their tables.
 
 pub mod cases;
 pub mod drawing;
+pub mod heads;
 
 use generate::frames::{fewest_entries, with_frames};
 use generate::{plan, Kind, Random};
 use reference::lookup::Question;
-use reference::{Condition, Edge, Lines, Pick, Planned, Process, Slot, Waits, When};
+use reference::{Condition, Edge, Lines, Pick, PlanLine, Planned, Process, Slot, Waits, When};
 
-/// The plan text S of document 01.
+/// The plan text S of document 01. Document 02: "document 01's cases have 0 there."
 pub const S: &str = "\
-(plan (byte 2) (pick urgency))
+(plan (byte 2) (head 0) (pick urgency))
 (slot (node 0) (bytes 2))
 (slot (node 1) (bytes 2))
 (process (node 0) (ticks 4) (waits all))
@@ -63,12 +64,15 @@ pub fn random_times(lines: &Lines, random: &mut Random) -> Vec<u64> {
         .collect()
 }
 
-/// A plan with pick urgency and these slots, given as node and bytes.
+/// A plan with no head, pick urgency and these slots, given as node and bytes.
 pub fn bus(byte: u64, slots: &[(u64, u64)]) -> Lines {
     let slots = slots.iter().map(|&(node, bytes)| Slot { node, bytes });
     Lines {
-        byte,
-        pick: Pick::Urgency,
+        plan: PlanLine {
+            byte,
+            head: 0,
+            pick: Pick::Urgency,
+        },
         slots: slots.collect(),
         processes: Vec::new(),
         conditions: Vec::new(),
@@ -86,6 +90,8 @@ pub trait With {
     fn decides(self, process: u64) -> Self;
     /// Adds an edge.
     fn edge(self, from: u64, to: u64, bytes: u64, when: When) -> Self;
+    /// Takes a head of so many bytes.
+    fn head(self, head: u64) -> Self;
     /// Takes pick number.
     fn by_number(self) -> Self;
 }
@@ -114,8 +120,13 @@ impl With for Lines {
         self
     }
 
+    fn head(mut self, head: u64) -> Self {
+        self.plan.head = head;
+        self
+    }
+
     fn by_number(mut self) -> Self {
-        self.pick = Pick::Number;
+        self.plan.pick = Pick::Number;
         self
     }
 }

@@ -5,7 +5,7 @@ use std::path::{Path, PathBuf};
 use generate::{plan, Kind, Random};
 use reference::who_runs::Combination;
 use suite::drawing::{compare, draw, picture};
-use suite::s;
+use suite::{s, With};
 
 /// The files of a test, without their extensions.
 fn files(test: &str) -> PathBuf {
@@ -27,7 +27,23 @@ fn s_is_drawn() {
         "process 3: ticks 32 to 34",
         "tell 0: frame of unit 0, ticks 8 to 12",
         "combination 1: condition 0 true; ends at 34, the worst delay",
+        ">worst delay 34 (red line), passed over 0<",
         ">0 false<",
+    ] {
+        assert!(picture.contains(title), "{title}");
+    }
+}
+
+#[test]
+fn frames_are_drawn_with_their_head() {
+    let lines = s().head(1);
+    compare(&files("head"), &lines, &[0, 1], &[]);
+    let picture = picture(&files("head"), &lines, &[]);
+    for title in [
+        "tell 0: frame of unit 0, ticks 12 to 18",
+        "send 2: frame of unit 1, ticks 42 to 48",
+        "combination 1: condition 0 true; ends at 50, the worst delay",
+        ">worst delay 50 (red line), passed over 0, head 1<",
     ] {
         assert!(picture.contains(title), "{title}");
     }

@@ -152,6 +152,14 @@ fn compare_kinds(before: &[u8], why: &str) {
     }
 }
 
+/// The figures that refusal 3 is about, with their ranges.
+const RANGES: [(&str, u64, u64); 4] = [
+    ("byte", 1, 1_000),
+    ("head", 0, 16),
+    ("bytes", 1, 64),
+    ("ticks", 1, 100_000),
+];
+
 /// Panics unless the figures that are said of a text refused with 2 to 9 are those of its lines.
 fn compare_figures(text: &str, place: Failing, why: &str) {
     let lines: Vec<&str> = text.lines().collect();
@@ -164,7 +172,9 @@ fn compare_figures(text: &str, place: Failing, why: &str) {
     let behind = |words| number_behind(why, words);
     let words: Vec<&str> = why.split_whitespace().collect();
     let value = words[2].trim_end_matches(',');
-    let figures = ["byte", "bytes", "ticks", "node", "process", "from", "to"];
+    let figures = [
+        "byte", "head", "bytes", "ticks", "node", "process", "from", "to",
+    ];
     if words[1] == "is" && figures.contains(&words[0]) {
         assert!(line.contains(&format!("({} {value})", words[0])), "{why}");
     }
@@ -179,8 +189,11 @@ fn compare_figures(text: &str, place: Failing, why: &str) {
             assert_eq!(of_kind(words[2])[most], place.line, "{why}");
         }
         3 => {
-            let most: usize = words[words.len() - 1].parse().unwrap();
-            assert!(value == "0" || value.parse::<usize>().unwrap() > most);
+            let mut ranges = RANGES.into_iter();
+            let (_, least, most) = ranges.find(|(name, ..)| *name == words[0]).expect(why);
+            let ends = format!(" must be from {least} to {most}\n");
+            assert!(why.ends_with(&ends), "{why}");
+            assert!(!(least..=most).contains(&value.parse().unwrap()), "{why}");
         }
         8 => compare_deciders(&of_kind("condition"), &lines, line, why),
         9 => {
@@ -430,7 +443,7 @@ fn words_for_a_wrong_beginning_of_a_line() {
 line 1:
   the text is empty: the plan line is missing
   expected a line of this form, N a number of one to nine digits without a needless leading zero
-    (plan (byte N) (pick urgency)), or pick number
+    (plan (byte N) (head N) (pick urgency)), or pick number
 ",
     );
     says(
@@ -439,13 +452,13 @@ line 1:
 line 1: (slot (node 0) (bytes 2))
   the plan line must be the first
   expected a line of this form, N a number of one to nine digits without a needless leading zero
-    (plan (byte N) (pick urgency)), or pick number
+    (plan (byte N) (head N) (pick urgency)), or pick number
 ",
     );
     says(
         only(&[1, 1]),
         "\
-line 2: (plan (byte 2) (pick urgency))
+line 2: (plan (byte 2) (head 0) (pick urgency))
   only the first line is a plan line
   expected a line of one of these forms, N a number of one to nine digits without a needless leading zero
     (slot (node N) (bytes N))
@@ -457,10 +470,10 @@ line 2: (plan (byte 2) (pick urgency))
     says(
         [b"\xef\xbb\xbf", S.as_bytes()].concat(),
         "\
-line 1: \\xef\\xbb\\xbf(plan (byte 2) (pick urgency))
+line 1: \\xef\\xbb\\xbf(plan (byte 2) (head 0) (pick urgency))
   a byte order mark (\\xef\\xbb\\xbf) stands here, and must not
   expected a line of this form, N a number of one to nine digits without a needless leading zero
-    (plan (byte N) (pick urgency)), or pick number
+    (plan (byte N) (head N) (pick urgency)), or pick number
 ",
     );
     says(
@@ -619,9 +632,68 @@ line 9: (edge (from 0) (to 1) (bytes 1) (when (yes 0)))
     says(
         edited(1, "urgency", "speed"),
         "\
-line 1: (plan (byte 2) (pick speed))
-  from column 22 on, expected \"urgency\" or \"number\"
-  the form of the line: (plan (byte N) (pick urgency)), or pick number
+line 1: (plan (byte 2) (head 0) (pick speed))
+  from column 31 on, expected \"urgency\" or \"number\"
+  the form of the line: (plan (byte N) (head N) (pick urgency)), or pick number
+",
+    );
+}
+
+#[test]
+fn words_for_a_head_that_is_not_of_the_form() {
+    let says = |text: Vec<u8>, expected: &str| {
+        says("a_head_that_is_not_of_the_form", &text, expected);
+    };
+    says(
+        edited(1, " (head 0)", ""),
+        "\
+line 1: (plan (byte 2) (pick urgency))
+  from column 17 on, expected \"head\"
+  the part head is missing: write (head 0) after (byte 2)
+  head is the number of bytes that a frame has beside its data, from 0 to 16
+  the form of the line: (plan (byte N) (head N) (pick urgency)), or pick number
+",
+    );
+    says(
+        edited(1, "(byte 2) (head 0)", "(head 0) (byte 2)"),
+        "\
+line 1: (plan (head 0) (byte 2) (pick urgency))
+  from column 8 on, expected \"byte\"
+  the part head must stand after byte and before pick
+  the form of the line: (plan (byte N) (head N) (pick urgency)), or pick number
+",
+    );
+    says(
+        edited(1, "(head 0) (pick urgency)", "(pick urgency) (head 0)"),
+        "\
+line 1: (plan (byte 2) (pick urgency) (head 0))
+  from column 17 on, expected \"head\"
+  the part head must stand after byte and before pick
+  the form of the line: (plan (byte N) (head N) (pick urgency)), or pick number
+",
+    );
+    says(
+        edited(1, "(head 0)", "(head 0) (head 0)"),
+        "\
+line 1: (plan (byte 2) (head 0) (head 0) (pick urgency))
+  from column 26 on, expected \"pick\"
+  the form of the line: (plan (byte N) (head N) (pick urgency)), or pick number
+",
+    );
+    says(
+        edited(1, "head 0", "head 01"),
+        "\
+line 1: (plan (byte 2) (head 01) (pick urgency))
+  from column 22 on, expected a number of one to nine digits without a needless leading zero
+  the form of the line: (plan (byte N) (head N) (pick urgency)), or pick number
+",
+    );
+    says(
+        edited(2, "(bytes 2)", "(head 0) (bytes 2)"),
+        "\
+line 2: (slot (node 0) (head 0) (bytes 2))
+  from column 17 on, expected \"bytes\"
+  the form of the line: (slot (node N) (bytes N))
 ",
     );
 }
@@ -677,7 +749,7 @@ line 13: \\x00\\x5c
         [S, &LAST_LINE.repeat(400)].concat().into_bytes(),
         "\
 line 351: (edge (from 2) (to 3) (bytes 1) (when always))
-  column 35 is byte 16385 of the text, and a text has at most 16384
+  column 26 is byte 16385 of the text, and a text has at most 16384
 ",
     );
 }
@@ -736,8 +808,15 @@ fn words_for_sizes() {
     says(
         edited(1, "2", "0"),
         "\
-line 1: (plan (byte 0) (pick urgency))
+line 1: (plan (byte 0) (head 0) (pick urgency))
   byte is 0, and must be from 1 to 1000
+",
+    );
+    says(
+        edited(1, "head 0", "head 17"),
+        "\
+line 1: (plan (byte 2) (head 17) (pick urgency))
+  head is 17, and must be from 0 to 16
 ",
     );
     says(

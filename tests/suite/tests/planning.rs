@@ -124,7 +124,7 @@ fn both_picks_are_planned_and_often_differ() {
     let mut different = 0;
     for_plans(28, &FEW, |lines, _| {
         let mut other = lines.clone();
-        other.pick = match lines.pick {
+        other.plan.pick = match lines.plan.pick {
             Pick::Urgency => Pick::Number,
             Pick::Number => Pick::Urgency,
         };

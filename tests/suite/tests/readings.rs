@@ -1,4 +1,5 @@
-//! Each reading of sections A to F that shows in an answer. The names begin with its number.
+//! Each reading of sections A to F that shows in an answer, and of section G those of the points
+//! that are there. The names begin with its number.
 
 use reference::lookup::{c_lookup, lookup, Answer, Question};
 use reference::run::Run;
@@ -67,7 +68,7 @@ fn a5_the_longest_lines_of_a_listing() {
 
 #[test]
 fn b1_no_lines_of_a_kind_are_of_the_form() {
-    assert_eq!(read(b"(plan (byte 2) (pick urgency))\n"), Err(2));
+    assert_eq!(read(b"(plan (byte 2) (head 0) (pick urgency))\n"), Err(2));
 }
 
 #[test]
@@ -151,7 +152,7 @@ fn b9_an_any_process_without_edges_into_it_stays_any() {
 #[test]
 fn b10_reading_tries_2_to_9() {
     let mut lines = s();
-    lines.byte = 0;
+    lines.plan.byte = 0;
     assert_eq!(read(&print(&lines)), Err(3));
 }
 
@@ -420,7 +421,7 @@ fn d7_an_unknown_node_gives_none_but_a_broken_plan_its_refusal() {
     let mut lines = s();
     let asked = question(2, 0, 0, 0, 0);
     assert_eq!(lookup(&lines, &[0; 5], asked), Answer::None);
-    lines.byte = 0;
+    lines.plan.byte = 0;
     assert_eq!(lookup(&lines, &[0; 5], asked), Answer::Refused(3));
 }
 
@@ -697,4 +698,71 @@ fn c17_the_program_refuses_more_than_2000_frames_with_11() {
     assert!(planned(&lines).words.len() <= 15_000);
     assert!(planned(&lines).frames.len() > 6_000);
     assert!(program(&print(&lines)) == b"(refused 11)\n");
+}
+
+// G. Document 02.
+
+#[test]
+fn g1_refusal_9_counts_data_only() {
+    let with_bytes = |bytes| {
+        let mut lines = s().head(16);
+        lines.edges[2].bytes = bytes;
+        refuse_plan(&lines)
+    };
+    assert_eq!(with_bytes(2), None);
+    for bytes in [3, 17, 18, 19, 64] {
+        assert_eq!(with_bytes(bytes), Some(9), "{bytes}");
+    }
+    assert_eq!(
+        refuse_plan(&cases::s_with_a_long_message().head(1)),
+        Some(9)
+    );
+}
+
+#[test]
+fn g1_places_count_data_only() {
+    for head in [0, 1, 3, 16] {
+        let lines = bus(1, &[(0, 4), (1, 1)])
+            .head(head)
+            .all(0, 1)
+            .all(1, 1)
+            .edge(0, 1, 3, When::Always);
+        // A round after tick 0, and a slot of node 0 after that.
+        let sent = 5 + 2 * head;
+        let start = sent + 4 + head;
+        let table = |place| {
+            let starts = [0, 0, 0, 0, 0, 1, 0, 0, start as u32, 0];
+            [&starts[..], &[2, 0, 0, sent as u32, place]].concat()
+        };
+        assert_eq!(check(&lines, &table(0), start + 1), None);
+        assert_eq!(check(&lines, &table(1), start + 1), None);
+        for place in [2, 3, 4, 17, 18, 63] {
+            assert_eq!(check(&lines, &table(place), start + 1), Some(19));
+        }
+    }
+}
+
+#[test]
+fn g1_frame_bytes_count_data_only() {
+    // The slots last 3 + 5 and 1 + 5 ticks.
+    let lines = cases::frame_of_two_lengths().head(5);
+    let frames = [
+        "(frame 14 (node 0) (bytes 1))",
+        "(frame 28 (node 0) (bytes 3))",
+    ];
+    assert_eq!(listed_from(&lines, "(frame"), frames);
+}
+
+#[test]
+fn g1_pass_overs_count_data_only() {
+    // The slots last 2 + 2 and 1 + 2 ticks; two messages would fill slot and head.
+    let lines = cases::three_full_slots().head(2);
+    let sent = [
+        "(send 0 (when) (at 7) (place 0))",
+        "(send 1 (when) (at 14) (place 0))",
+        "(send 2 (when) (at 21) (place 0))",
+    ];
+    assert_eq!(listed_from(&lines, "(send"), sent);
+    assert_eq!(planned(&lines).passed, 2);
+    assert_eq!(planned(&lines).passed_by_node, [2, 0]);
 }

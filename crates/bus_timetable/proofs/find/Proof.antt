@@ -3,35 +3,37 @@
 use mathlib.Core.Path.{_≡_, sym, ap, _∙_}
 use mathlib.Core.List.{List}
 use Prim.Native.Nat.{ℕ, _+_, _-_, _*_, _≤_, _<_}
-use native.Mathlib.Nat.{mul-le-mul}
 use native.Mathlib.Omega.{arith}
 use lib.ListN.{getD}
 use borrow.Author.Needs.{needs}
 use borrow.Author.Tests.{eq-eqb, ne-eqb}
+use Rattle.limits.specs.Limits.{SLOTTICKS}
 use Rattle.lists.specs.Lists.{below, upfrom}
 use Rattle.lists.proofs.Loops.{upfrom-start, upfrom-next, upfrom-end}
+use Rattle.plan.specs.declared.PlanLine.{PlanLine}
 use Rattle.plan.specs.Tests.{slot-bytes}
-use Rattle.bus_timetable.specs.Bus.{ticks-before, Small}
+use Rattle.bus_timetable.specs.Bus.{ticks-of, ticks-before, Small}
+use Rattle.bus_timetable.proofs.TicksMost.{ticks-most}
 use Rattle.bus_timetable.proofs.find.Statement.{statement}
 use Rattle.bus_timetable.proofs.find.Tie as tie
 
 abbrev Inv-loop : tie.InvT-loop
-Inv-loop slot bytes slots byte node sum₀ i₀ sum i =
-    (i ≤ slots) × (sum ≤ 64000 * i) × (ticks-before byte slot bytes node (below slots) ≡ sum + ticks-before byte slot bytes node (upfrom i (slots - i)))
+Inv-loop slot bytes slots line node sum₀ i₀ sum i =
+    (i ≤ slots) × (sum ≤ SLOTTICKS * i) × (ticks-before line slot bytes node (below slots) ≡ sum + ticks-before line slot bytes node (upfrom i (slots - i)))
     × (slot-bytes slot bytes node (below slots) ≡ slot-bytes slot bytes node (upfrom i (slots - i)))
 
 abbrev μ-loop : tie.MeasureT-loop
-μ-loop slot bytes slots byte node sum₀ i₀ sum i = slots - i
+μ-loop slot bytes slots line node sum₀ i₀ sum i = slots - i
 
 -- the ticks of one slot
-most : {byte : ℕ} {bytes : List ℕ} {slots : ℕ} → Small byte bytes slots → (i : ℕ) → i < slots → getD bytes i 0 * byte ≤ 64000
-most s i l = let r : _ ≤ 64 * 1000 = mul-le-mul (s .sizes i l) (s .short) in omega arith
+most : {line : PlanLine} {bytes : List ℕ} {slots : ℕ} → Small line bytes slots → (i : ℕ) → i < slots → ticks-of line (getD bytes i 0) ≤ SLOTTICKS
+most s i l = ticks-most (s .short) _ (s .sizes i l)
 
 loop-holds : tie.Need-loop-holds Inv-loop μ-loop
 loop-holds c =
     let a = c .args in
     let e = upfrom-start (a .slots) in
-    let t = ap (ticks-before (a .byte) (a .slot .now) (a .bytes .now) (a .node)) e in
+    let t = ap (ticks-before (a .line) (a .slot .now) (a .bytes .now) (a .node)) e in
     (search needs, search needs, omega (arith, t), ap (slot-bytes (a .slot .now) (a .bytes .now) (a .node)) e)
 
 mul-b : tie.Need-mul-b Inv-loop μ-loop
@@ -40,14 +42,17 @@ mul-b c = search needs
 element-copy-out-b : tie.Need-element-copy-out-b Inv-loop μ-loop
 element-copy-out-b c = search needs
 
-mul-next : tie.Need-mul-next Inv-loop μ-loop
-mul-next c = let l = most (c .before .before .before .pre) (c .before .before .loop .i) (c .before .loop-test .taken) in omega arith
+slot-ticks-requires : tie.Need-slot-ticks-requires Inv-loop μ-loop
+slot-ticks-requires c κs =
+    let s = c .before .before .before .pre in
+    (s .short, s .sizes (c .before .before .loop .i) (c .before .loop-test .taken))
 
 add-next : tie.Need-add-next Inv-loop μ-loop
 add-next c =
-    let l = most (c .before .before .before .pre) (c .before .before .loop .i) (c .before .loop-test .taken) in
-    let f = c .before .before .before .pre .few in
-    omega arith
+    let b = c .before .before .before in
+    let l = most (b .before .pre) (b .loop .i) (c .before .before .loop-test .taken) in
+    let f = b .before .pre .few in
+    omega (arith, c .slot-ticks .ensures)
 
 mul-if1 : tie.Need-mul-if1 Inv-loop μ-loop
 mul-if1 c = search needs
@@ -58,13 +63,14 @@ element-copy-out-if1 c = search needs
 returns : tie.Need-returns Inv-loop μ-loop
 unfolding ticks-before slot-bytes
 returns c =
-    let a = c .before .before .before .before .before .args in
-    let l = c .before .before .before .before .loop in
-    let s = c .before .before .before .before .before .pre in
-    let k = c .before .before .before .loop-test .taken in
+    let b = c .before .before .before .before .before in
+    let a = b .before .args in
+    let l = b .loop in
+    let s = b .before .pre in
+    let k = c .before .before .before .before .loop-test .taken in
     let e = upfrom-next (a .slots) (l .i) k in
     let q = eq-eqb _ _ (c .if1 .taken) in
-    let t : ticks-before (a .byte) (a .slot .now) (a .bytes .now) (a .node) (upfrom (l .i) (a .slots - l .i)) ≡ 0 = ap (ticks-before (a .byte) (a .slot .now) (a .bytes .now) (a .node)) e ∙ rw q in
+    let t : ticks-before (a .line) (a .slot .now) (a .bytes .now) (a .node) (upfrom (l .i) (a .slots - l .i)) ≡ 0 = ap (ticks-before (a .line) (a .slot .now) (a .bytes .now) (a .node)) e ∙ rw q in
     record {
       before = omega (arith, t, l .inv .2);
       room = sym (l .inv .3 ∙ ap (slot-bytes (a .slot .now) (a .bytes .now) (a .node)) e ∙ rw q);
@@ -80,13 +86,14 @@ loop-less c = search needs
 loop-again : tie.Need-loop-again Inv-loop μ-loop
 unfolding ticks-before slot-bytes
 loop-again c =
-    let a = c .before .before .before .before .before .args in
-    let l = c .before .before .before .before .loop in
-    let s = c .before .before .before .before .before .pre in
-    let k = c .before .before .before .loop-test .taken in
+    let b = c .before .before .before .before .before in
+    let a = b .before .args in
+    let l = b .loop in
+    let s = b .before .pre in
+    let k = c .before .before .before .before .loop-test .taken in
     let e = upfrom-next (a .slots) (l .i) k in
     let q = ne-eqb _ _ (c .if1 .left) in
-    let t : ticks-before (a .byte) (a .slot .now) (a .bytes .now) (a .node) (upfrom (l .i) (a .slots - l .i)) ≡ getD (a .bytes .now) (l .i) 0 * a .byte + ticks-before (a .byte) (a .slot .now) (a .bytes .now) (a .node) (upfrom (l .i + 1) (a .slots - (l .i + 1))) = ap (ticks-before (a .byte) (a .slot .now) (a .bytes .now) (a .node)) e ∙ rw q in
+    let t : ticks-before (a .line) (a .slot .now) (a .bytes .now) (a .node) (upfrom (l .i) (a .slots - l .i)) ≡ ticks-of (a .line) (getD (a .bytes .now) (l .i) 0) + ticks-before (a .line) (a .slot .now) (a .bytes .now) (a .node) (upfrom (l .i + 1) (a .slots - (l .i + 1))) = ap (ticks-before (a .line) (a .slot .now) (a .bytes .now) (a .node)) e ∙ rw q in
     let m = most s (l .i) k in (
       search needs,
       omega (arith, m, l .inv .1),
@@ -101,7 +108,7 @@ returns-2 c =
     let l = c .before .loop in
     let s = c .before .before .pre in
     let e = upfrom-end (a .slots) (l .i) (c .loop-test .left) in
-    let t : ticks-before (a .byte) (a .slot .now) (a .bytes .now) (a .node) (upfrom (l .i) (a .slots - l .i)) ≡ 0 = ap (ticks-before (a .byte) (a .slot .now) (a .bytes .now) (a .node)) e in
+    let t : ticks-before (a .line) (a .slot .now) (a .bytes .now) (a .node) (upfrom (l .i) (a .slots - l .i)) ≡ 0 = ap (ticks-before (a .line) (a .slot .now) (a .bytes .now) (a .node)) e in
     record {
       before = omega (arith, t, l .inv .2);
       room = sym (l .inv .3 ∙ ap (slot-bytes (a .slot .now) (a .bytes .now) (a .node)) e);
@@ -117,7 +124,7 @@ find-spec =
     loop-holds
     mul-b
     element-copy-out-b
-    mul-next
+    slot-ticks-requires
     add-next
     mul-if1
     element-copy-out-if1

@@ -15,14 +15,14 @@ of-slots-requires : tie.Need-of-slots-requires
 of-slots-requires c κs =
     let s = c .before .before .before .before in
     let p = s .args .p in
-    subst (λ (t : SlotTable). Small (p .byte) (t .bytes) (p .slots)) (sym (c .before .before .before .slot-table .ensures)) (small p (s .pre))
+    subst (λ (t : SlotTable). Small (p .line) (t .bytes) (p .slots)) (sym (c .before .before .before .slot-table .ensures)) (small p (s .pre))
 
 returns : tie.Need-returns
 returns c =
     let s = c .before .before .before .before .before in
     let p = s .args .p in
     let t = c .before .before .before .before .slot-table .ensures in
-    c .of-slots .ensures ∙ ap (λ (t : SlotTable). table-of (p .byte) (t .node) (t .bytes) (p .slots)) t ∙ timetable-same p (s .pre)
+    c .of-slots .ensures ∙ ap (λ (t : SlotTable). table-of (p .line) (t .node) (t .bytes) (p .slots)) t ∙ timetable-same p (s .pre)
 
 pub of-plan-spec : {M : Type 1} → statement M
 of-plan-spec = tie.close (tie.spec slot-table-requires of-slots-requires returns)

@@ -30,14 +30,14 @@ returns c =
 digits-requires : tie.Need-digits-requires
 digits-requires c κs = search needs
 
-add-head : tie.Need-add-head
-add-head c = search needs
+add-totals : tie.Need-add-totals
+add-totals c = search needs
 
 digits-requires-2 : tie.Need-digits-requires-2
 digits-requires-2 c κs = search needs
 
-add-head-2 : tie.Need-add-head-2
-add-head-2 c = search needs
+add-totals-2 : tie.Need-add-totals-2
+add-totals-2 c = search needs
 
 returns-2 : tie.Need-returns-2
 returns-2 c =
@@ -68,9 +68,9 @@ exceeds-spec =
     suffice-requires
     returns
     digits-requires
-    add-head
+    add-totals
     digits-requires-2
-    add-head-2
+    add-totals-2
     returns-2
     add-entries-room
     entries-room-requires

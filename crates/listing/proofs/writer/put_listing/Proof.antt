@@ -1,4 +1,4 @@
--- `listing::put_listing` meets its contract: a walk of its MIR, by hand. All that it knows of `start`, `head`,
+-- `listing::put_listing` meets its contract: a walk of its MIR, by hand. All that it knows of `start`, `totals`,
 -- `entries`, `frames` and `filled` is that each meets its contract.
 -- Each is called at the borrow's own lifetime, share and ghost name: what the first four return is, by their contracts,
 -- a record that is known whole, pointer and ghost name with it, so what `filled` says of the last list is said of
@@ -47,7 +47,7 @@ use Rattle.text_lines.specs.Line.{put-on}
 use Rattle.text_lines.specs.Put.{Put}
 use Rattle.text_lines.proofs.Puts.{put-then, put-length}
 use Rattle.listing_bytes.specs.Fits.{Fits}
-use Rattle.listing_count.specs.Parts.{head-of, entries-text, frames-text, listing-of}
+use Rattle.listing_count.specs.Parts.{totals-of, entries-text, frames-text, listing-of}
 use Rattle.listing_bytes.proofs.Stored.{fits-first, fits-rest}
 use Rattle.text_lines.proofs.Writer as T
 use Rattle.text_lines.proofs.Writer.Laws as T′
@@ -55,10 +55,10 @@ use Rattle.text_lines.proofs.start as start
 use Rattle.text_lines.proofs.start.Symbol as start-def
 use Rattle.text_lines.proofs.start.Symbol.{name as #text_lines·start}
 use Rattle.text_lines.proofs.start.Met as start-thm
-use Rattle.listing.proofs.writer.head as head
-use Rattle.listing.proofs.writer.head.Symbol as head-def
-use Rattle.listing.proofs.writer.head.Symbol.{name as #listing·writer·head}
-use Rattle.listing.proofs.writer.head.Met as head-thm
+use Rattle.listing.proofs.writer.totals as totals
+use Rattle.listing.proofs.writer.totals.Symbol as totals-def
+use Rattle.listing.proofs.writer.totals.Symbol.{name as #listing·writer·totals}
+use Rattle.listing.proofs.writer.totals.Met as totals-thm
 use Rattle.listing.proofs.writer.entries as entries
 use Rattle.listing.proofs.writer.entries.Symbol as entries-def
 use Rattle.listing.proofs.writer.entries.Symbol.{name as #listing·writer·entries}
@@ -84,8 +84,8 @@ module _ {M : Type 1} (𝓤 : URA M) (H : Heap 𝓤) (A : Atoms 𝓤) (mem : Mem
   abbrev Start : Contract 𝓤
   Start = tripleOf 𝓤 H A start.signature (start.spec 𝓤 H A mem run)
 
-  abbrev Head : Contract 𝓤
-  Head = tripleOf 𝓤 H A head.signature (head.spec 𝓤 H A mem run)
+  abbrev Totals : Contract 𝓤
+  Totals = tripleOf 𝓤 H A totals.signature (totals.spec 𝓤 H A mem run)
 
   abbrev Entries : Contract 𝓤
   Entries = tripleOf 𝓤 H A entries.signature (entries.spec 𝓤 H A mem run)
@@ -100,8 +100,8 @@ module _ {M : Type 1} (𝓤 : URA M) (H : Heap 𝓤) (A : Atoms 𝓤) (mem : Mem
   start-says : (κ : Lft) (x : RefT (List ℕ)) (n : ℕ) (r : Writer) → ent 𝓤 (ensured 𝓤 H A start.ended (start.clauses 𝓤 H A mem run) (κ, tt) (x, (n, tt)) tt r) (fact 𝓤 ((r .out ≡ x) × (r .at ≡ n)))
   start-says κ x n r = exE 𝓤 _ (λ ws. snd∗ 𝓤 (sem 𝓤 H A (lasts start.ended (κ, tt) (x, (n, tt)) ws)) (fact 𝓤 ((r .out ≡ x) × (r .at ≡ n))))
 
-  head-says : (κ : Lft) (h : Writer) (d m : ℕ) (r : Writer) → ent 𝓤 (ensured 𝓤 H A head.ended (head.clauses 𝓤 H A mem run) (κ, tt) (h, (d, (m, tt))) tt r) (fact 𝓤 (r ≡ put-on h (head-of d m)))
-  head-says κ h d m r = exE 𝓤 _ (λ ws. snd∗ 𝓤 (sem 𝓤 H A (lasts head.ended (κ, tt) (h, (d, (m, tt))) ws)) (fact 𝓤 (r ≡ put-on h (head-of d m))))
+  totals-says : (κ : Lft) (h : Writer) (d m : ℕ) (r : Writer) → ent 𝓤 (ensured 𝓤 H A totals.ended (totals.clauses 𝓤 H A mem run) (κ, tt) (h, (d, (m, tt))) tt r) (fact 𝓤 (r ≡ put-on h (totals-of d m)))
+  totals-says κ h d m r = exE 𝓤 _ (λ ws. snd∗ 𝓤 (sem 𝓤 H A (lasts totals.ended (κ, tt) (h, (d, (m, tt))) ws)) (fact 𝓤 (r ≡ put-on h (totals-of d m))))
 
   entries-says : (κ κ′ : Lft) (h : Writer) (p e k : ℕ) (y : RefT (List ℕ)) (r : Writer) → ent 𝓤 (ensured 𝓤 H A entries.ended (entries.clauses 𝓤 H A mem run) (κ, (κ′, tt)) (h, (p, (e, (k, (y, tt))))) tt r) (fact 𝓤 (r ≡ put-on h (entries-text p e k (y .now))))
   entries-says κ κ′ h p e k y r = exE 𝓤 _ (λ ws. snd∗ 𝓤 (sem 𝓤 H A (lasts entries.ended (κ, (κ′, tt)) (h, (p, (e, (k, (y, tt))))) ws)) (fact 𝓤 (r ≡ put-on h (entries-text p e k (y .now)))))
@@ -133,12 +133,12 @@ module _ {M : Type 1} (𝓤 : URA M) (H : Heap 𝓤) (A : Atoms 𝓤) (W : Given
   abbrev Own : RefT (List ℕ) → Val → Fml
   Own l v = ShrSlice (named 1) κ′ u32 .own l (v ∷ [])
 
-  -- the writers that `start`, `head`, `entries` and `frames` return
+  -- the writers that `start`, `totals`, `entries` and `frames` return
   abbrev h₀ : Writer
   h₀ = record { out = x; at = 0 }
 
   abbrev h₁ : Writer
-  h₁ = put-on h₀ (head-of d m)
+  h₁ = put-on h₀ (totals-of d m)
 
   abbrev h₂ : Writer
   h₂ = put-on h₁ (entries-text p e k (y .now))
@@ -146,28 +146,28 @@ module _ {M : Type 1} (𝓤 : URA M) (H : Heap 𝓤) (A : Atoms 𝓤) (W : Given
   abbrev h₃ : Writer
   h₃ = put-on h₂ (frames-text (z .now))
 
-  headed : Put ys (h₁ .out .now) 0 (h₁ .at) (head-of d m)
-  headed = record { count = refl; holds = refl }
+  totals-put : Put ys (h₁ .out .now) 0 (h₁ .at) (totals-of d m)
+  totals-put = record { count = refl; holds = refl }
 
   filed : Put (h₁ .out .now) (h₂ .out .now) (h₁ .at) (h₂ .at) (entries-text p e k (y .now))
   filed = record { count = refl; holds = refl }
 
   -- each part has room, and the parts together are the listing
-  fits-head : Fits ys 0 (head-of d m)
+  fits-totals : Fits ys 0 (totals-of d m)
   unfolding listing-of
-  fits-head = fits-first (head-of d m) _ fits
+  fits-totals = fits-first (totals-of d m) _ fits
 
   fits-entries : Fits (h₁ .out .now) (h₁ .at) (entries-text p e k (y .now))
   unfolding listing-of
-  fits-entries = fits-first (entries-text p e k (y .now)) (frames-text (z .now)) (fits-rest headed _ fits)
+  fits-entries = fits-first (entries-text p e k (y .now)) (frames-text (z .now)) (fits-rest totals-put _ fits)
 
   fits-frames : Fits (h₂ .out .now) (h₂ .at) (frames-text (z .now))
   unfolding listing-of
-  fits-frames = fits-rest filed (frames-text (z .now)) (fits-rest headed _ fits)
+  fits-frames = fits-rest filed (frames-text (z .now)) (fits-rest totals-put _ fits)
 
   listed : (r : ℕ) (zs : List ℕ) → (r ≡ h₃ .at) × (zs ≡ h₃ .out .now) → Put ys zs 0 r (listing-of p e k d m (y .now) (z .now))
   unfolding listing-of
-  listed r zs e = put-then headed (put-then filed (record { count = e .0; holds = e .1 }))
+  listed r zs e = put-then totals-put (put-then filed (record { count = e .0; holds = e .1 }))
 
   -- the machine value of a writer has the struct's MIR type, whose lifetimes a local's erases
   typed : (h : Writer) (w : Val) → Is (T.the-row α) h (w ∷ []) → Holds (hasTy (T′.mir erased) w) × WT w
@@ -197,12 +197,12 @@ module _ {M : Type 1} (𝓤 : URA M) (H : Heap 𝓤) (A : Atoms 𝓤) (W : Given
       nothing ! $ owned ! usize (Is usize) (uint-makes 𝓤 H A W w64) 0 _ (refl, zero-fits) $ fjoin ! $ move ! (2 ∷ 0 ∷ []) $ fjoin ! $
       nothing ! $ move ! (2 ∷ 0 ∷ []) $ join ! $ join ! $ frame ! $ done !
 
-  abbrev to-head : Val → Head 𝓤 H A mem run .Ghost
-  to-head w = (((κ, tt), (q, tt), tt, (h₀, (d, (m, tt))), (w ∷ [], (vint w32 d ∷ [], (vint w32 m ∷ [], tt)))), tt)
+  abbrev to-totals : Val → Totals 𝓤 H A mem run .Ghost
+  to-totals w = (((κ, tt), (q, tt), tt, (h₀, (d, (m, tt))), (w ∷ [], (vint w32 d ∷ [], (vint w32 m ∷ [], tt)))), tt)
 
-  goes-head : (w : Val) → ent 𝓤 (⋆ 𝓤 H A ((‵ (flft κ q) ⊛ ‵ ftrue) ∷ ‵ (T.the-row α .own h₀ (w ∷ [])) ∷ [])) (Head 𝓤 H A mem run .pre (to-head w))
-  goes-head w =
-      qed W ((‵ (flft κ q) ⊛ ‵ ftrue) ∷ ‵ (T.the-row α .own h₀ (w ∷ [])) ∷ []) ∵ says ! fits-head $ frame ! $
+  goes-totals : (w : Val) → ent 𝓤 (⋆ 𝓤 H A ((‵ (flft κ q) ⊛ ‵ ftrue) ∷ ‵ (T.the-row α .own h₀ (w ∷ [])) ∷ [])) (Totals 𝓤 H A mem run .pre (to-totals w))
+  goes-totals w =
+      qed W ((‵ (flft κ q) ⊛ ‵ ftrue) ∷ ‵ (T.the-row α .own h₀ (w ∷ [])) ∷ []) ∵ says ! fits-totals $ frame ! $
       nothing ! $ owned ! u32 (Is u32) (uint-makes 𝓤 H A W w32) m _ (refl, m-fits) $ fjoin ! $ owned ! u32 (Is u32) (uint-makes 𝓤 H A W w32) d _ (refl, d-fits) $ fjoin ! $ move ! (1 ∷ 0 ∷ []) $ fjoin ! $ done !
 
   abbrev to-entries : Val → Entries 𝓤 H A mem run .Ghost
@@ -242,7 +242,7 @@ module _ {M : Type 1} (𝓤 : URA M) (H : Heap 𝓤) (A : Atoms 𝓤) (W : Given
       owned ! u32 (Is u32) (uint-makes 𝓤 H A W w32) m _ (refl, m-fits) $ fjoin ! $ owned ! u32 (Is u32) (uint-makes 𝓤 H A W w32) d _ (refl, d-fits) $ fjoin ! $ owned ! usize (Is usize) (uint-makes 𝓤 H A W w64) k _ (refl, k-fits) $ fjoin ! $ owned ! usize (Is usize) (uint-makes 𝓤 H A W w64) e _ (refl, e-fits) $ fjoin ! $ owned ! usize (Is usize) (uint-makes 𝓤 H A W w64) p _ (refl, p-fits) $ fjoin ! $
       move ! (1 ∷ 0 ∷ []) $ fjoin ! $ done !
 
-  module _ (C : Calls 𝓤 H) (Λ : Loops 𝓤 H) (fm : FmC 𝓤 H (W .laws) C) (known-start : Triple 𝓤 (C #text_lines·start) (Start 𝓤 H A mem run)) (known-head : Triple 𝓤 (C #listing·writer·head) (Head 𝓤 H A mem run)) (known-entries : Triple 𝓤 (C #listing·writer·entries) (Entries 𝓤 H A mem run)) (known-frames : Triple 𝓤 (C #listing·writer·frames) (Frames 𝓤 H A mem run)) (known-filled : Triple 𝓤 (C #text_lines·filled) (Filled 𝓤 H A mem run)) where
+  module _ (C : Calls 𝓤 H) (Λ : Loops 𝓤 H) (fm : FmC 𝓤 H (W .laws) C) (known-start : Triple 𝓤 (C #text_lines·start) (Start 𝓤 H A mem run)) (known-totals : Triple 𝓤 (C #listing·writer·totals) (Totals 𝓤 H A mem run)) (known-entries : Triple 𝓤 (C #listing·writer·entries) (Entries 𝓤 H A mem run)) (known-frames : Triple 𝓤 (C #listing·writer·frames) (Frames 𝓤 H A mem run)) (known-filled : Triple 𝓤 (C #text_lines·filled) (Filled 𝓤 H A mem run)) where
     walk : Room u8 (length ys) → Is (ShrSlice (named 1) κ′ u32) y (t ∷ []) → Is (ShrSlice (named 1) κ′ u32) z (u ∷ []) → ent 𝓤 (onEntry 𝓤 H A put-listing.signature (κ, (κ′, tt)) (q, (q′, tt)) a vals) (WpFn 𝓤 H C Λ code.function (s ∷ vint w64 p ∷ vint w64 e ∷ vint w64 k ∷ vint w32 d ∷ vint w32 m ∷ t ∷ u ∷ []) Post)
     walk room is-table is-list =
         qed W ((‵ (flft κ q) ⊛ ‵ (flft κ′ q′) ⊛ ‵ ftrue) ∷ ‵ (owns (MutSlice (named 0) κ u8 ∷ usize ∷ usize ∷ usize ∷ u32 ∷ u32 ∷ ShrSlice (named 1) κ′ u32 ∷ ShrSlice (named 1) κ′ u32 ∷ []) a vals) ∷ []) ∵ enter ! C Λ code.function (s ∷ vint w64 p ∷ vint w64 e ∷ vint w64 k ∷ vint w32 d ∷ vint w32 m ∷ t ∷ u ∷ []) _ $
@@ -263,11 +263,11 @@ module _ {M : Type 1} (𝓤 : URA M) (H : Heap 𝓤) (A : Atoms 𝓤) (W : Given
         split ! $ move ! (1 ∷ []) $ use1 W (raw (fact 𝓤 ((r₀ .out ≡ x) × (r₀ .at ≡ 0)))) (start-says 𝓤 H A mem run κ x 0 r₀) $ heard ! ((r₀ .out ≡ x) × (r₀ .at ≡ 0)) (λ e₀.
         split ! $ rewrite ! 1 (λ (h : Writer). ‵ (T.the-row α .own h (w₀ ∷ []))) (λ i. record { out = e₀ .0 i; at = e₀ .1 i }) refl $
         move ! (1 ∷ []) $ peeks ! (T.the-row α) (Is (T.the-row α)) (shows 𝓤 H A (T.the-row α)) h₀ (w₀ ∷ []) (λ is₀. land ! (from ! (stop !)) (init ! 12 refl (typed h₀ w₀ is₀)) $
-        -- `head`; [the writer; the token; the other token; list; list; true; table; table; _14; …]
-        move ! (1 ∷ 0 ∷ []) $ use2 W (raw (Head 𝓤 H A mem run .pre (to-head w₀))) (goes-head w₀) $
-        calls-at ! fm (Head 𝓤 H A mem run) known-head (to-head w₀) (and-then ! (load ! (from ! (stop !)) (look ! 11 refl)) (and-then ! (load ! (from ! (stop !)) (look ! 25 refl)) (and-then ! (load ! (from ! (stop !)) (look ! 23 refl)) (no-more !)))) (λ w₁.
-        use1 W (later (some (λ (r : Writer). ((‵ (flft κ q) ⊛ ‵ ftrue) ⊛ ‵ (T.the-row α .own r (w₁ ∷ []))) ⊛ raw (ensured 𝓤 H A head.ended (head.clauses 𝓤 H A mem run) (κ, tt) (h₀, (d, (m, tt))) tt r)))) (id⊢ 𝓤 _) $ await ! tt $ pick ! (λ r₁.
-        split ! $ move ! (1 ∷ []) $ use1 W (raw (fact 𝓤 (r₁ ≡ h₁))) (head-says 𝓤 H A mem run κ h₀ d m r₁) $ heard ! (r₁ ≡ h₁) (λ e₁.
+        -- `totals`; [the writer; the token; the other token; list; list; true; table; table; _14; …]
+        move ! (1 ∷ 0 ∷ []) $ use2 W (raw (Totals 𝓤 H A mem run .pre (to-totals w₀))) (goes-totals w₀) $
+        calls-at ! fm (Totals 𝓤 H A mem run) known-totals (to-totals w₀) (and-then ! (load ! (from ! (stop !)) (look ! 11 refl)) (and-then ! (load ! (from ! (stop !)) (look ! 25 refl)) (and-then ! (load ! (from ! (stop !)) (look ! 23 refl)) (no-more !)))) (λ w₁.
+        use1 W (later (some (λ (r : Writer). ((‵ (flft κ q) ⊛ ‵ ftrue) ⊛ ‵ (T.the-row α .own r (w₁ ∷ []))) ⊛ raw (ensured 𝓤 H A totals.ended (totals.clauses 𝓤 H A mem run) (κ, tt) (h₀, (d, (m, tt))) tt r)))) (id⊢ 𝓤 _) $ await ! tt $ pick ! (λ r₁.
+        split ! $ move ! (1 ∷ []) $ use1 W (raw (fact 𝓤 (r₁ ≡ h₁))) (totals-says 𝓤 H A mem run κ h₀ d m r₁) $ heard ! (r₁ ≡ h₁) (λ e₁.
         split ! $ rewrite ! 1 (λ (h : Writer). ‵ (T.the-row α .own h (w₁ ∷ []))) e₁ refl $
         move ! (1 ∷ []) $ peeks ! (T.the-row α) (Is (T.the-row α)) (shows 𝓤 H A (T.the-row α)) h₁ (w₁ ∷ []) (λ is₁. land ! (from ! (stop !)) (init ! 14 refl (typed h₁ w₁ is₁)) $
         -- `entries`
@@ -298,21 +298,21 @@ module _ {M : Type 1} (𝓤 : URA M) (H : Heap 𝓤) (A : Atoms 𝓤) (W : Given
         keep ! (1 ∷ 5 ∷ 2 ∷ 9 ∷ 7 ∷ 0 ∷ []) $ by ! (exits r w (zs .0 .0) ends))))))))))))))))))))))))))))))))))))))
 
 module _ {M : Type 1} (𝓤 : URA M) (H : Heap 𝓤) (A : Atoms 𝓤) (W : Given 𝓤 H A) (mem : Memory → SProp 𝓤) (run : Routine → Fun 𝓤) where
-  put-listing-walks : (C : Calls 𝓤 H) (Λ : Loops 𝓤 H) → FmC 𝓤 H (W .laws) C → Triple 𝓤 (C #text_lines·start) (Start 𝓤 H A mem run) → Triple 𝓤 (C #listing·writer·head) (Head 𝓤 H A mem run) → Triple 𝓤 (C #listing·writer·entries) (Entries 𝓤 H A mem run) → Triple 𝓤 (C #listing·writer·frames) (Frames 𝓤 H A mem run) → Triple 𝓤 (C #text_lines·filled) (Filled 𝓤 H A mem run)
+  put-listing-walks : (C : Calls 𝓤 H) (Λ : Loops 𝓤 H) → FmC 𝓤 H (W .laws) C → Triple 𝓤 (C #text_lines·start) (Start 𝓤 H A mem run) → Triple 𝓤 (C #listing·writer·totals) (Totals 𝓤 H A mem run) → Triple 𝓤 (C #listing·writer·entries) (Entries 𝓤 H A mem run) → Triple 𝓤 (C #listing·writer·frames) (Frames 𝓤 H A mem run) → Triple 𝓤 (C #text_lines·filled) (Filled 𝓤 H A mem run)
       → Walks 𝓤 H A put-listing.ended stayed (WpFn 𝓤 H C Λ code.function) (put-listing.clauses 𝓤 H A mem run)
-  put-listing-walks C Λ fm known-start known-head known-entries known-frames known-filled = walked 𝓤 H A put-listing.ended stayed (put-listing.clauses 𝓤 H A mem run) (WpFn 𝓤 H C Λ code.function)
+  put-listing-walks C Λ fm known-start known-totals known-entries known-frames known-filled = walked 𝓤 H A put-listing.ended stayed (put-listing.clauses 𝓤 H A mem run) (WpFn 𝓤 H C Λ code.function)
       (λ κs. (slice-vals, (uint-vals w64, (uint-vals w64, (uint-vals w64, (uint-vals w32, (uint-vals w32, (slice-vals, (slice-vals, tt))))))))) (λ κs. (mut-slice-tells (named 0) (κs .0) u8, (uint-tells w64, (uint-tells w64, (uint-tells w64, (uint-tells w32, (uint-tells w32, (shr-slice-tells (named 1) (κs .1 .0) u32, (shr-slice-tells (named 1) (κs .1 .0) u32, tt)))))))))
       (λ κs qs bounds a g are. needs 𝓤 (Fits (a .0 .now) 0 (listing-of (a .1 .0) (a .1 .1 .0) (a .1 .1 .1 .0) (a .1 .1 .1 .1 .0) (a .1 .1 .1 .1 .1 .0) (a .1 .1 .1 .1 .1 .1 .0 .now) (a .1 .1 .1 .1 .1 .1 .1 .0 .now))) _ (λ fits.
-      walk 𝓤 H A W mem run (κs .0) (κs .1 .0) (qs .0) (qs .1 .0) (a .0 .ptr .0) (a .0 .ptr .1) (a .0 .name) (a .0 .now) (a .1 .0) (a .1 .1 .0) (a .1 .1 .1 .0) (a .1 .1 .1 .1 .0) (a .1 .1 .1 .1 .1 .0) (a .1 .1 .1 .1 .1 .1 .0) (a .1 .1 .1 .1 .1 .1 .1 .0) (are .1 .0 .1) (are .1 .1 .0 .1) (are .1 .1 .1 .0 .1) (are .1 .1 .1 .1 .0 .1) (are .1 .1 .1 .1 .1 .0 .1) fits C Λ fm known-start known-head known-entries known-frames known-filled (are .0 .0 .1) (are .1 .1 .1 .1 .1 .1 .0) (are .1 .1 .1 .1 .1 .1 .1 .0)))
+      walk 𝓤 H A W mem run (κs .0) (κs .1 .0) (qs .0) (qs .1 .0) (a .0 .ptr .0) (a .0 .ptr .1) (a .0 .name) (a .0 .now) (a .1 .0) (a .1 .1 .0) (a .1 .1 .1 .0) (a .1 .1 .1 .1 .0) (a .1 .1 .1 .1 .1 .0) (a .1 .1 .1 .1 .1 .1 .0) (a .1 .1 .1 .1 .1 .1 .1 .0) (are .1 .0 .1) (are .1 .1 .0 .1) (are .1 .1 .1 .0 .1) (are .1 .1 .1 .1 .0 .1) (are .1 .1 .1 .1 .1 .0 .1) fits C Λ fm known-start known-totals known-entries known-frames known-filled (are .0 .0 .1) (are .1 .1 .1 .1 .1 .1 .0) (are .1 .1 .1 .1 .1 .1 .1 .0)))
 
 put-listing-meets : {M : Type 1} (𝓤 : URA M) (H : Heap 𝓤) (A : Atoms 𝓤) → Given 𝓤 H A → (mem : Memory → SProp 𝓤) (run : Routine → Fun 𝓤) (𝓣 : Tables 𝓤 H)
-    → Triple 𝓤 (𝓣 .C #text_lines·start) (Start 𝓤 H A mem run) → Triple 𝓤 (𝓣 .C #listing·writer·head) (Head 𝓤 H A mem run) → Triple 𝓤 (𝓣 .C #listing·writer·entries) (Entries 𝓤 H A mem run) → Triple 𝓤 (𝓣 .C #listing·writer·frames) (Frames 𝓤 H A mem run) → Triple 𝓤 (𝓣 .C #text_lines·filled) (Filled 𝓤 H A mem run)
+    → Triple 𝓤 (𝓣 .C #text_lines·start) (Start 𝓤 H A mem run) → Triple 𝓤 (𝓣 .C #listing·writer·totals) (Totals 𝓤 H A mem run) → Triple 𝓤 (𝓣 .C #listing·writer·entries) (Entries 𝓤 H A mem run) → Triple 𝓤 (𝓣 .C #listing·writer·frames) (Frames 𝓤 H A mem run) → Triple 𝓤 (𝓣 .C #text_lines·filled) (Filled 𝓤 H A mem run)
     → Meets 𝓤 H A put-listing.signature (WpFn 𝓤 H (𝓣 .C) (𝓣 .Λ) code.function) (put-listing.spec 𝓤 H A mem run)
-put-listing-meets 𝓤 H A W mem run 𝓣 known-start known-head known-entries known-frames known-filled =
+put-listing-meets 𝓤 H A W mem run 𝓣 known-start known-totals known-entries known-frames known-filled =
     walk-meets 𝓤 H A put-listing.ended stayed W
     (goes-gave-slice 𝓤 H A W 2 0 tt (plain (λ _. u8)), (goes-none 𝓤 H A W 2 (λ _. usize) yes (λ κs x f. refl), (goes-none 𝓤 H A W 2 (λ _. usize) yes (λ κs x f. refl), (goes-none 𝓤 H A W 2 (λ _. usize) yes (λ κs x f. refl), (goes-none 𝓤 H A W 2 (λ _. u32) yes (λ κs x f. refl), (goes-none 𝓤 H A W 2 (λ _. u32) yes (λ κs x f. refl), (goes-none-slice 𝓤 H A W 2 (1 ∷ []) tt (plain (λ _. u32)) yes, (goes-none-slice 𝓤 H A W 2 (1 ∷ []) tt (plain (λ _. u32)) yes, tt))))))))
     (put-listing.clauses 𝓤 H A mem run) (WpFn 𝓤 H (𝓣 .C) (𝓣 .Λ) code.function) (WpFn-mono 𝓤 H (W .laws) 𝓣 code.function)
-    (put-listing-walks 𝓤 H A W mem run (𝓣 .C) (𝓣 .Λ) (fmOf 𝓤 H (W .laws) 𝓣) known-start known-head known-entries known-frames known-filled)
+    (put-listing-walks 𝓤 H A W mem run (𝓣 .C) (𝓣 .Λ) (fmOf 𝓤 H (W .laws) 𝓣) known-start known-totals known-entries known-frames known-filled)
 
 pub put-listing-spec : {M : Type 1} → stated.statement M
 unfolding code.routine tablesOf
@@ -321,7 +321,7 @@ put-listing-spec 𝓤 H 𝓜 𝓖 𝓡 =
     (tables 𝓤 H 𝓜 𝓡 code.env .C) (tables 𝓤 H 𝓜 𝓡 code.env .Λ) #listing·writer·put-listing code.function (code.unfolded 𝓤 H 𝓜 𝓡)
     (put-listing-meets 𝓤 H (𝓖 .A) (givenOf 𝓤 H 𝓜 𝓖) (𝓜 .mem) (𝓡 .run) (tablesOf 𝓤 H 𝓜 (tables 𝓤 H 𝓜 𝓡 code.env))
     (cited 𝓤 H (Start 𝓤 H (𝓖 .A) (𝓜 .mem) (𝓡 .run)) 𝓜 𝓡 code.env #text_lines·start start-def.routine code.calls-text-lines·start (start-thm.met 𝓤 H 𝓜 𝓖 𝓡))
-    (cited 𝓤 H (Head 𝓤 H (𝓖 .A) (𝓜 .mem) (𝓡 .run)) 𝓜 𝓡 code.env #listing·writer·head head-def.routine code.calls-listing·writer·head (head-thm.met 𝓤 H 𝓜 𝓖 𝓡))
+    (cited 𝓤 H (Totals 𝓤 H (𝓖 .A) (𝓜 .mem) (𝓡 .run)) 𝓜 𝓡 code.env #listing·writer·totals totals-def.routine code.calls-listing·writer·totals (totals-thm.met 𝓤 H 𝓜 𝓖 𝓡))
     (cited 𝓤 H (Entries 𝓤 H (𝓖 .A) (𝓜 .mem) (𝓡 .run)) 𝓜 𝓡 code.env #listing·writer·entries entries-def.routine code.calls-listing·writer·entries (entries-thm.met 𝓤 H 𝓜 𝓖 𝓡))
     (cited 𝓤 H (Frames 𝓤 H (𝓖 .A) (𝓜 .mem) (𝓡 .run)) 𝓜 𝓡 code.env #listing·writer·frames frames-def.routine code.calls-listing·writer·frames (frames-thm.met 𝓤 H 𝓜 𝓖 𝓡))
     (cited 𝓤 H (Filled 𝓤 H (𝓖 .A) (𝓜 .mem) (𝓡 .run)) 𝓜 𝓡 code.env #text_lines·filled filled-def.routine code.calls-text-lines·filled (filled-thm.met 𝓤 H 𝓜 𝓖 𝓡)))

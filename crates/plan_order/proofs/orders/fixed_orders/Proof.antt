@@ -32,7 +32,7 @@ abbrev second : tie.After-sender → tie.After-in-groups2
 second c = c .before .before
 
 abbrev made-4 : tie.After-weights → tie.After-edge-table
-made-4 c = made (c .before .before)
+made-4 c = made (c .before .before .before)
 
 abbrev made-3 : tie.After-receiver-weights → tie.After-edge-table
 made-3 c = made-4 (weighed (c .before))
@@ -116,7 +116,7 @@ returns c =
     let h = m .before .before .pre in
     let q = m .before .process-table .ensures in
     let e = m .edge-table .ensures in
-    let v = same-weights p h q e (w .before .urgencies .result) (w .before .urgencies .ensures) (w .weights .ensures) in
+    let v = same-weights p h q e (w .before .before .urgencies .result) (w .before .before .urgencies .ensures) (w .weights .ensures) in
     let into = same-into p h q e (z .no-edges .ensures) (g1 .in-groups .ensures) in
     let dispatch = same-dispatch p h q e (same-dispatch-order p h q e (w .weights .result) v) (g2 .in-groups2 .ensures) in
     let queue = same-queues p h q e (s .sender-keys .ensures) (same-queue p h q e (w .weights .result) v (r .receiver-weights .ensures)) (g3 .in-groups3 .ensures) in

@@ -62,9 +62,9 @@ use Rattle.text_lines.proofs.filled.Symbol as filled-def
 use Rattle.text_lines.proofs.filled.Met as filled-thm
 use Rattle.text_writer.proofs.WholeText.{print-parts, counts-plan, few-lines}
 use Rattle.text_writer.proofs.ThinPut.{ThinTriple, to-thin, goes-thin, Said, thin-says}
-use Rattle.text_writer.proofs.PlanParts.{head-part, slots-part, processes-part, conditions-part, edges-part}
-use Rattle.text_writer.proofs.plan_text.head.Symbol as head
-use Rattle.text_writer.proofs.plan_text.head.Met as head-thm
+use Rattle.text_writer.proofs.PlanParts.{plan-line-part, slots-part, processes-part, conditions-part, edges-part}
+use Rattle.text_writer.proofs.plan_text.plan_line.Symbol as plan-line
+use Rattle.text_writer.proofs.plan_text.plan_line.Met as plan-line-thm
 use Rattle.text_writer.proofs.plan_text.slots.Symbol as slots
 use Rattle.text_writer.proofs.plan_text.slots.Met as slots-thm
 use Rattle.text_writer.proofs.plan_text.processes.Symbol as processes
@@ -113,9 +113,9 @@ module _ {M : Type 1} (𝓤 : URA M) (H : Heap 𝓤) (A : Atoms 𝓤) (W : Given
   h₀ = record { out = x; at = 0 }
 
   abbrev h₁ : Writer
-  h₁ = put-on h₀ (head-part .bytes p)
+  h₁ = put-on h₀ (plan-line-part .bytes p)
 
-  put₁ : Put (h₀ .out .now) (h₁ .out .now) (h₀ .at) (h₁ .at) (head-part .bytes p)
+  put₁ : Put (h₀ .out .now) (h₁ .out .now) (h₀ .at) (h₁ .at) (plan-line-part .bytes p)
   put₁ = record { count = refl; holds = refl }
 
   abbrev h₂ : Writer
@@ -198,7 +198,7 @@ module _ {M : Type 1} (𝓤 : URA M) (H : Heap 𝓤) (A : Atoms 𝓤) (W : Given
       suffices ! _ (ends-at 𝓤 H A put-plan.ended stayed (put-plan.clauses 𝓤 H A mem run) W (((κ, tt), (q, tt), tt, a, vals), tt) w r (zs, (tt, tt)) (put-length (printed r zs e), (tt, tt))) $ says ! (printed r zs e) $
       frame ! $ nothing ! $ owned ! P.the-row (Is P.the-row) (LL.makes P.the-type P′.the-plain 𝓤 H A) p _ is-p $ fjoin ! $ move ! (1 ∷ 0 ∷ []) $ fjoin ! $ done !
 
-  module _ (C : Calls 𝓤 H) (Λ : Loops 𝓤 H) (fm : FmC 𝓤 H (W .laws) C) (known-start : Triple 𝓤 (C start-def.name) (Start 𝓤 H A mem run)) (known-head : Triple 𝓤 (C head.name) (ThinTriple head-part 𝓤 H A)) (known-slots : Triple 𝓤 (C slots.name) (ThinTriple slots-part 𝓤 H A)) (known-processes : Triple 𝓤 (C processes.name) (ThinTriple processes-part 𝓤 H A)) (known-conditions : Triple 𝓤 (C conditions.name) (ThinTriple conditions-part 𝓤 H A)) (known-edges : Triple 𝓤 (C edges.name) (ThinTriple edges-part 𝓤 H A)) (known-filled : Triple 𝓤 (C filled-def.name) (Filled 𝓤 H A mem run)) where
+  module _ (C : Calls 𝓤 H) (Λ : Loops 𝓤 H) (fm : FmC 𝓤 H (W .laws) C) (known-start : Triple 𝓤 (C start-def.name) (Start 𝓤 H A mem run)) (known-plan-line : Triple 𝓤 (C plan-line.name) (ThinTriple plan-line-part 𝓤 H A)) (known-slots : Triple 𝓤 (C slots.name) (ThinTriple slots-part 𝓤 H A)) (known-processes : Triple 𝓤 (C processes.name) (ThinTriple processes-part 𝓤 H A)) (known-conditions : Triple 𝓤 (C conditions.name) (ThinTriple conditions-part 𝓤 H A)) (known-edges : Triple 𝓤 (C edges.name) (ThinTriple edges-part 𝓤 H A)) (known-filled : Triple 𝓤 (C filled-def.name) (Filled 𝓤 H A mem run)) where
     walk : Room u8 (length ys) → ent 𝓤 (onEntry 𝓤 H A put-plan.signature (κ, tt) (q, tt) a vals) (WpFn 𝓤 H C Λ code.function (s ∷ v ∷ []) Post)
     walk room =
         qed W ((‵ (flft κ q) ⊛ ‵ ftrue) ∷ ‵ (owns (MutSlice (named 0) κ u8 ∷ P.the-row ∷ []) a vals) ∷ []) ∵ enter ! C Λ code.function (s ∷ v ∷ []) _ $
@@ -217,11 +217,11 @@ module _ {M : Type 1} (𝓤 : URA M) (H : Heap 𝓤) (A : Atoms 𝓤) (W : Given
         split ! $ rewrite ! 1 (λ (h : Writer). ‵ (T.the-row α .own h (w₀ ∷ []))) (λ i. record { out = e₀ .0 i; at = e₀ .1 i }) refl $
         move ! (1 ∷ []) $ peeks ! (T.the-row α) (Is (T.the-row α)) (shows 𝓤 H A (T.the-row α)) h₀ (w₀ ∷ []) (λ is₀. land ! (from ! (stop !)) (init ! 7 refl (typed h₀ w₀ is₀)) $
         -- from here on, before each thin function: [the writer; the token; true; _10; …]
-        -- `head`
-        move ! (1 ∷ 0 ∷ []) $ use2 W (raw (ThinTriple head-part 𝓤 H A .pre (to-thin head-part 𝓤 H A κ q h₀ p w₀ v))) (goes-thin head-part 𝓤 H A κ q h₀ p W w₀ v is-p (counts-first _ _ (counts-plan p passes))) $
-        calls-at ! fm (ThinTriple head-part 𝓤 H A) known-head (to-thin head-part 𝓤 H A κ q h₀ p w₀ v) (and-then ! (load ! (from ! (stop !)) (look ! 6 refl)) (and-then ! (load ! (from ! (stop !)) (look ! 18 refl)) (no-more !))) (λ w₁.
-        use1 W (later (some (λ (r : Writer). ((‵ (flft κ q) ⊛ ‵ ftrue) ⊛ ‵ (T.the-row α .own r (w₁ ∷ []))) ⊛ raw (Said head-part 𝓤 H A κ q h₀ p r)))) (id⊢ 𝓤 _) $ await ! tt $ pick ! (λ r₁.
-        split ! $ move ! (1 ∷ []) $ use1 W (raw (fact 𝓤 (r₁ ≡ h₁))) (thin-says head-part 𝓤 H A κ q h₀ p r₁) $ heard ! (r₁ ≡ h₁) (λ e₁.
+        -- `plan_line`
+        move ! (1 ∷ 0 ∷ []) $ use2 W (raw (ThinTriple plan-line-part 𝓤 H A .pre (to-thin plan-line-part 𝓤 H A κ q h₀ p w₀ v))) (goes-thin plan-line-part 𝓤 H A κ q h₀ p W w₀ v is-p (counts-first _ _ (counts-plan p passes))) $
+        calls-at ! fm (ThinTriple plan-line-part 𝓤 H A) known-plan-line (to-thin plan-line-part 𝓤 H A κ q h₀ p w₀ v) (and-then ! (load ! (from ! (stop !)) (look ! 6 refl)) (and-then ! (load ! (from ! (stop !)) (look ! 18 refl)) (no-more !))) (λ w₁.
+        use1 W (later (some (λ (r : Writer). ((‵ (flft κ q) ⊛ ‵ ftrue) ⊛ ‵ (T.the-row α .own r (w₁ ∷ []))) ⊛ raw (Said plan-line-part 𝓤 H A κ q h₀ p r)))) (id⊢ 𝓤 _) $ await ! tt $ pick ! (λ r₁.
+        split ! $ move ! (1 ∷ []) $ use1 W (raw (fact 𝓤 (r₁ ≡ h₁))) (thin-says plan-line-part 𝓤 H A κ q h₀ p r₁) $ heard ! (r₁ ≡ h₁) (λ e₁.
         split ! $ rewrite ! 1 (λ (h : Writer). ‵ (T.the-row α .own h (w₁ ∷ []))) e₁ refl $
         move ! (1 ∷ []) $ peeks ! (T.the-row α) (Is (T.the-row α)) (shows 𝓤 H A (T.the-row α)) h₁ (w₁ ∷ []) (λ is₁. land ! (from ! (stop !)) (init ! 9 refl (typed h₁ w₁ is₁)) $
         -- `slots`
@@ -266,20 +266,20 @@ module _ {M : Type 1} (𝓤 : URA M) (H : Heap 𝓤) (A : Atoms 𝓤) (W : Given
         keep ! (1 ∷ 2 ∷ 0 ∷ []) $ by ! (exits r w (zs .0 .0) ends))))))))))))))))))))))))))))))))))))))))))
 
 module _ {M : Type 1} (𝓤 : URA M) (H : Heap 𝓤) (A : Atoms 𝓤) (W : Given 𝓤 H A) (mem : Memory → SProp 𝓤) (run : Routine → Fun 𝓤) where
-  put-plan-walks : (C : Calls 𝓤 H) (Λ : Loops 𝓤 H) → FmC 𝓤 H (W .laws) C → Triple 𝓤 (C start-def.name) (Start 𝓤 H A mem run) → Triple 𝓤 (C head.name) (ThinTriple head-part 𝓤 H A) → Triple 𝓤 (C slots.name) (ThinTriple slots-part 𝓤 H A) → Triple 𝓤 (C processes.name) (ThinTriple processes-part 𝓤 H A) → Triple 𝓤 (C conditions.name) (ThinTriple conditions-part 𝓤 H A) → Triple 𝓤 (C edges.name) (ThinTriple edges-part 𝓤 H A) → Triple 𝓤 (C filled-def.name) (Filled 𝓤 H A mem run)
+  put-plan-walks : (C : Calls 𝓤 H) (Λ : Loops 𝓤 H) → FmC 𝓤 H (W .laws) C → Triple 𝓤 (C start-def.name) (Start 𝓤 H A mem run) → Triple 𝓤 (C plan-line.name) (ThinTriple plan-line-part 𝓤 H A) → Triple 𝓤 (C slots.name) (ThinTriple slots-part 𝓤 H A) → Triple 𝓤 (C processes.name) (ThinTriple processes-part 𝓤 H A) → Triple 𝓤 (C conditions.name) (ThinTriple conditions-part 𝓤 H A) → Triple 𝓤 (C edges.name) (ThinTriple edges-part 𝓤 H A) → Triple 𝓤 (C filled-def.name) (Filled 𝓤 H A mem run)
       → Walks 𝓤 H A put-plan.ended stayed (WpFn 𝓤 H C Λ code.function) (put-plan.clauses 𝓤 H A mem run)
-  put-plan-walks C Λ fm known-start known-head known-slots known-processes known-conditions known-edges known-filled = walked 𝓤 H A put-plan.ended stayed (put-plan.clauses 𝓤 H A mem run) (WpFn 𝓤 H C Λ code.function)
+  put-plan-walks C Λ fm known-start known-plan-line known-slots known-processes known-conditions known-edges known-filled = walked 𝓤 H A put-plan.ended stayed (put-plan.clauses 𝓤 H A mem run) (WpFn 𝓤 H C Λ code.function)
       (λ κs. (slice-vals, (LL.vals P.the-type P′.the-laws, tt))) (λ κs. (mut-slice-tells (named 0) (κs .0) u8, (LL.tells P.the-type P′.the-laws, tt)))
       (λ κs qs bounds a g are. needs 𝓤 (plan-refusal (lines (a .1 .0)) ≡ no-refusal) _ (λ passes.
-      walk 𝓤 H A W mem run (κs .0) (qs .0) (a .0 .ptr .0) (a .0 .ptr .1) (a .0 .name) (a .0 .now) (a .1 .0) (LL.val P.the-type P′.the-laws (a .1 .0)) (are .1 .0) passes C Λ fm known-start known-head known-slots known-processes known-conditions known-edges known-filled (are .0 .0 .1)))
+      walk 𝓤 H A W mem run (κs .0) (qs .0) (a .0 .ptr .0) (a .0 .ptr .1) (a .0 .name) (a .0 .now) (a .1 .0) (LL.val P.the-type P′.the-laws (a .1 .0)) (are .1 .0) passes C Λ fm known-start known-plan-line known-slots known-processes known-conditions known-edges known-filled (are .0 .0 .1)))
 
 put-plan-meets : {M : Type 1} (𝓤 : URA M) (H : Heap 𝓤) (A : Atoms 𝓤) → Given 𝓤 H A → (mem : Memory → SProp 𝓤) (run : Routine → Fun 𝓤) (𝓣 : Tables 𝓤 H)
-    → Triple 𝓤 (𝓣 .C start-def.name) (Start 𝓤 H A mem run) → Triple 𝓤 (𝓣 .C head.name) (ThinTriple head-part 𝓤 H A) → Triple 𝓤 (𝓣 .C slots.name) (ThinTriple slots-part 𝓤 H A) → Triple 𝓤 (𝓣 .C processes.name) (ThinTriple processes-part 𝓤 H A) → Triple 𝓤 (𝓣 .C conditions.name) (ThinTriple conditions-part 𝓤 H A) → Triple 𝓤 (𝓣 .C edges.name) (ThinTriple edges-part 𝓤 H A) → Triple 𝓤 (𝓣 .C filled-def.name) (Filled 𝓤 H A mem run)
+    → Triple 𝓤 (𝓣 .C start-def.name) (Start 𝓤 H A mem run) → Triple 𝓤 (𝓣 .C plan-line.name) (ThinTriple plan-line-part 𝓤 H A) → Triple 𝓤 (𝓣 .C slots.name) (ThinTriple slots-part 𝓤 H A) → Triple 𝓤 (𝓣 .C processes.name) (ThinTriple processes-part 𝓤 H A) → Triple 𝓤 (𝓣 .C conditions.name) (ThinTriple conditions-part 𝓤 H A) → Triple 𝓤 (𝓣 .C edges.name) (ThinTriple edges-part 𝓤 H A) → Triple 𝓤 (𝓣 .C filled-def.name) (Filled 𝓤 H A mem run)
     → Meets 𝓤 H A put-plan.signature (WpFn 𝓤 H (𝓣 .C) (𝓣 .Λ) code.function) (put-plan.spec 𝓤 H A mem run)
-put-plan-meets 𝓤 H A W mem run 𝓣 known-start known-head known-slots known-processes known-conditions known-edges known-filled =
+put-plan-meets 𝓤 H A W mem run 𝓣 known-start known-plan-line known-slots known-processes known-conditions known-edges known-filled =
     walk-meets 𝓤 H A put-plan.ended stayed W (goes-gave-slice 𝓤 H A W 1 0 tt (plain (λ _. u8)), (goes-none 𝓤 H A W 1 (λ _. P.the-row) yes (λ κs x f. refl), tt))
     (put-plan.clauses 𝓤 H A mem run) (WpFn 𝓤 H (𝓣 .C) (𝓣 .Λ) code.function) (WpFn-mono 𝓤 H (W .laws) 𝓣 code.function)
-    (put-plan-walks 𝓤 H A W mem run (𝓣 .C) (𝓣 .Λ) (fmOf 𝓤 H (W .laws) 𝓣) known-start known-head known-slots known-processes known-conditions known-edges known-filled)
+    (put-plan-walks 𝓤 H A W mem run (𝓣 .C) (𝓣 .Λ) (fmOf 𝓤 H (W .laws) 𝓣) known-start known-plan-line known-slots known-processes known-conditions known-edges known-filled)
 
 pub put-plan-spec : {M : Type 1} → stated.statement M
 unfolding code.routine tablesOf
@@ -288,7 +288,7 @@ put-plan-spec 𝓤 H 𝓜 𝓖 𝓡 =
     (tables 𝓤 H 𝓜 𝓡 code.env .C) (tables 𝓤 H 𝓜 𝓡 code.env .Λ) #put-plan code.function (code.unfolded 𝓤 H 𝓜 𝓡)
     (put-plan-meets 𝓤 H (𝓖 .A) (givenOf 𝓤 H 𝓜 𝓖) (𝓜 .mem) (𝓡 .run) (tablesOf 𝓤 H 𝓜 (tables 𝓤 H 𝓜 𝓡 code.env))
     (cited 𝓤 H (Start 𝓤 H (𝓖 .A) (𝓜 .mem) (𝓡 .run)) 𝓜 𝓡 code.env start-def.name start-def.routine code.calls-text-lines·start (start-thm.met 𝓤 H 𝓜 𝓖 𝓡))
-    (cited 𝓤 H (ThinTriple head-part 𝓤 H (𝓖 .A)) 𝓜 𝓡 code.env head.name head.routine code.calls-text-writer·plan-text·head (head-thm.met 𝓤 H 𝓜 𝓖 𝓡))
+    (cited 𝓤 H (ThinTriple plan-line-part 𝓤 H (𝓖 .A)) 𝓜 𝓡 code.env plan-line.name plan-line.routine code.calls-text-writer·plan-text·plan-line (plan-line-thm.met 𝓤 H 𝓜 𝓖 𝓡))
     (cited 𝓤 H (ThinTriple slots-part 𝓤 H (𝓖 .A)) 𝓜 𝓡 code.env slots.name slots.routine code.calls-text-writer·plan-text·slots (slots-thm.met 𝓤 H 𝓜 𝓖 𝓡))
     (cited 𝓤 H (ThinTriple processes-part 𝓤 H (𝓖 .A)) 𝓜 𝓡 code.env processes.name processes.routine code.calls-text-writer·plan-text·processes (processes-thm.met 𝓤 H 𝓜 𝓖 𝓡))
     (cited 𝓤 H (ThinTriple conditions-part 𝓤 H (𝓖 .A)) 𝓜 𝓡 code.env conditions.name conditions.routine code.calls-text-writer·plan-text·conditions (conditions-thm.met 𝓤 H 𝓜 𝓖 𝓡))

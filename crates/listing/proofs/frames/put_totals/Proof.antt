@@ -1,14 +1,14 @@
--- `listing::put_head` meets its contract: the labelled numbers are stored, then the end of the line.
+-- `listing::put_totals` meets its contract: the labelled numbers are stored, then the end of the line.
 -- Assumes nothing.
 use native.Mathlib.Omega.{arith}
 use lib.ListN.{length-append}
-use Rattle.listing_count.specs.Parts.{head-of}
-use Rattle.listing_count.proofs.Lengths.{head-length}
+use Rattle.listing_count.specs.Parts.{totals-of}
+use Rattle.listing_count.proofs.Lengths.{totals-length}
 use Rattle.text_lines.proofs.Puts.{put-then}
 use Rattle.listing_bytes.proofs.Stored.{fits-less, fits-behind}
 use borrow.Author.Needs.{needs}
-use Rattle.listing.proofs.frames.put_head.Statement.{statement}
-use Rattle.listing.proofs.frames.put_head.Tie as tie
+use Rattle.listing.proofs.frames.put_totals.Statement.{statement}
+use Rattle.listing.proofs.frames.put_totals.Tie as tie
 
 slice-aggregate-put-labelled : tie.Need-slice-aggregate-put-labelled
 slice-aggregate-put-labelled c = search needs
@@ -16,7 +16,7 @@ slice-aggregate-put-labelled c = search needs
 put-labelled-requires : tie.Need-put-labelled-requires
 put-labelled-requires c κs =
     let a = c .before .before .before in
-    fits-less (a .pre) (simp length-append (omega (arith, head-length (a .args .delay) (a .args .passed))))
+    fits-less (a .pre) (simp length-append (omega (arith, totals-length (a .args .delay) (a .args .passed))))
 
 slice-aggregate-put-labelled-2 : tie.Need-slice-aggregate-put-labelled-2
 slice-aggregate-put-labelled-2 c = search needs
@@ -24,7 +24,7 @@ slice-aggregate-put-labelled-2 c = search needs
 put-labelled-requires-2 : tie.Need-put-labelled-requires-2
 put-labelled-requires-2 c κs =
     let a = c .before .before .before .before .before .before .before .before in
-    fits-behind (c .before .before .before .before .put-labelled .ensures) (a .pre) (simp length-append (omega (arith, head-length (a .args .delay) (a .args .passed))))
+    fits-behind (c .before .before .before .before .put-labelled .ensures) (a .pre) (simp length-append (omega (arith, totals-length (a .args .delay) (a .args .passed))))
 
 slice-aggregate-put-word : tie.Need-slice-aggregate-put-word
 slice-aggregate-put-word c = search needs
@@ -32,17 +32,17 @@ slice-aggregate-put-word c = search needs
 put-word-requires : tie.Need-put-word-requires
 put-word-requires c κs =
     let a = c .before .before .before .before .before .before .before .before .before .before .before .before .before in
-    fits-behind (put-then (c .before .before .before .before .before .before .before .before .before .put-labelled .ensures) (c .before .before .before .before .put-labelled2 .ensures)) (a .pre) (simp length-append (omega (arith, head-length (a .args .delay) (a .args .passed))))
+    fits-behind (put-then (c .before .before .before .before .before .before .before .before .before .put-labelled .ensures) (c .before .before .before .before .put-labelled2 .ensures)) (a .pre) (simp length-append (omega (arith, totals-length (a .args .delay) (a .args .passed))))
 
 same-length : tie.Need-same-length
 same-length c = search needs
 
 returns : tie.Need-returns
-unfolding head-of
+unfolding totals-of
 returns c = put-then (c .before .before .before .before .before .before .before .before .before .before .before .before .put-labelled .ensures) (put-then (c .before .before .before .before .before .before .before .put-labelled2 .ensures) (c .before .before .put-word .ensures))
 
-pub put-head-spec : {M : Type 1} → statement M
-put-head-spec =
+pub put-totals-spec : {M : Type 1} → statement M
+put-totals-spec =
     tie.close
     (tie.spec
     slice-aggregate-put-labelled
