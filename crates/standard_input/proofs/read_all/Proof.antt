@@ -1,12 +1,12 @@
--- `riscadru_plan::read_all` meets its contract: what was read so far lies within the lent bytes.
+-- `standard_input::read_all` meets its contract: what was read so far lies within the lent bytes.
 -- Assumes nothing.
 use Prim.Native.Nat.{_-_, _≤_}
 use mathlib.Core.Path.{_≡_}
 use lib.ListN.{length}
 use borrow.Author.Needs.{needs}
-use Rattle.riscadru_plan.proofs.Within.{bytes-within}
-use Rattle.riscadru_plan.proofs.read_all.Statement.{statement}
-use Rattle.riscadru_plan.proofs.read_all.Tie as tie
+use Rattle.standard_input.proofs.Within.{bytes-within}
+use Rattle.standard_input.proofs.read_all.Statement.{statement}
+use Rattle.standard_input.proofs.read_all.Tie as tie
 
 abbrev Inv-loop : tie.InvT-loop
 Inv-loop out₀ done₀ out done = (length out ≡ length out₀) × (done ≤ length out)

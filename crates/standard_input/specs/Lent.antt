@@ -2,8 +2,8 @@
 -- say: that is C's `read`.
 -- Assumes nothing.
 use Prim.Native.Nat.{ℕ, _≤_}
-use Rattle.riscadru_plan.specs.declared.Input.{Input}
-use Rattle.riscadru_plan.specs.declared.Input.the-variants.{Bytes, Failed}
+use Rattle.standard_input.specs.declared.Input.{Input}
+use Rattle.standard_input.specs.declared.Input.the-variants.{Bytes, Failed}
 
 abbrev pub Lies-within : Input → ℕ → Type 0
 Lies-within (Bytes n) lent = n ≤ lent
