@@ -14,7 +14,7 @@
  * Nothing is allocated and nothing is kept between calls: a call works on its caller's stack. Measured on
  * x86-64, with S and with a largest plan, the least stack with which a process that made the call came through,
  * rounded up to 8 KiB: riscadru_plan_table 720 KiB, riscadru_plan_listing 456, riscadru_check_table 344,
- * riscadru_lookup 64, riscadru_copy_plan 48, the row functions 24. That is not proved.
+ * riscadru_check_listing 304, riscadru_lookup 64, riscadru_copy_plan 48, the row functions 24. That is not proved.
  */
 #ifndef RISCADRU_H
 #define RISCADRU_H
@@ -26,7 +26,7 @@
 extern "C" {
 #endif
 
-/* An answer is a number, or refusal N as 2^64 - 1 - N. The refusals are numbered as in document 01. */
+/* An answer is a number, or refusal N as 2^64 - 1 - N. The refusals are numbered as in documents 01 and 02. */
 #define RISCADRU_REFUSED(n) (UINT64_MAX - (uint64_t)(n))
 
 /* The answer of riscadru_lookup where no entry is found. No refusal and no entry has this number. */
@@ -78,6 +78,22 @@ uint64_t riscadru_plan_listing(const uint8_t *text, size_t text_length, uint8_t 
  */
 uint64_t riscadru_check_table(const uint8_t *text, size_t text_length, const uint8_t *table, size_t table_length,
                               uint64_t delay);
+
+/* Checks a printed table: a listing as the planning program prints it, whoever wrote it.
+ *
+ * `listing` may be any bytes. It is of its form if it has a delay line, a passed line, then the lines of
+ * entries (start, send, tell, rows in order, the lines of one row in any order), then the lines of frames,
+ * and nothing else: single spaces, each line ended by a line feed, numbers of one to nine digits, numbers of
+ * processes, edges and conditions that the plan has, the conditions of a `when` ascending, at most 3,000
+ * entries and 2,000 frames. Its entries are read in the order in which they stand.
+ *
+ * Answer: 0, the listing is of its form, its table is sound for the plan and the delay of its delay line, its
+ * frames are those that its entries give, and its passed line is the plan's pass-over count. Or the first
+ * refusal that applies: 1, the text exceeds 16,384 bytes or is not of the form; 2 to 9, the plan breaks that
+ * rule first; 21, the listing is not of its form; 12 to 20, its table breaks that rule first; 22, its frames
+ * or its passed line are not those that they should be.
+ */
+uint64_t riscadru_check_listing(const uint8_t *text, size_t text_length, const uint8_t *listing, size_t listing_length);
 
 /* Finds what a unit's kernel has to take up next at a tick: a process to start, or a message or a
  * condition's value to send.

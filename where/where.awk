@@ -1,152 +1,19 @@
-# Says where a refused plan text fails: awk -v refused=N -f where.awk PLAN
+# Says where a refused plan text fails: awk -v refused=N -f text.awk -f where.awk PLAN
 #
 # PLAN is a plan text that the planner refused with N, from 1 to 9. Prints the first line at which that sentence of
 # document 01 fails (with the head of document 02), by number, the line itself, and what was expected there; for 4, 5
 # and 7 also the earlier line that it collides with. Prints nothing for another N, and where the text cannot be read.
-# Of several plans each is told.
-#
-# The text comes through od, as numbers: not every awk can read a NUL, or tell whether the last line feed is there.
-# Bytes that are not printable, and the backslash, are shown as \xNN. Columns count bytes, from 1.
+# Of several plans each is told. RISCADRU_PLAN of the environment, if it is there, stands before the line's number.
 
 # ---- reading ----
 
-# a file's name as a word of the shell
-function quoted(file,    parts, part, i, word) {
-    parts = split(file, part, "'")
-    word = "'" part[1]
-    for (i = 2; i <= parts; i++)
-        word = word "'\\''" part[i]
-    return word "'"
-}
-
-# Reads a text: its bytes and line feeds are counted, its lines kept as they are shown, and line and column of the byte
-# that is too many noted, 0 if none is. Says whether this worked.
-function read_text(file,    command, i, whole) {
-    split("", line)
-    split("", cut)
-    size = feeds = column = over = over_column = 0
-    command = "od -An -v -tu1 -N " (longest + widest) " <" quoted(file) " && echo whole"
-    while ((command | getline) > 0) {
-        if ($1 == "whole")
-            whole = 1
-        else
-            for (i = 1; i <= NF; i++)
-                take($i + 0)
-    }
-    close(command)
-    return whole
-}
-
-# takes the next byte of the text
-function take(byte) {
-    column++
-    if (++size == longest + 1) {
-        over = feeds + 1
-        over_column = column
-    }
-    if (byte == 10) {
-        feeds++
-        column = 0
-    } else if (column <= widest)
-        line[feeds + 1] = line[feeds + 1] shown[byte]
-    else
-        cut[feeds + 1] = 1
-}
-
-# whether this word comes next in `text`, from column `at` on; then goes behind it
-function word_comes(word,    have) {
-    have = substr(text, at, length(word))
-    if (have == word) {
-        at += length(word)
-        return 1
-    }
-    if (have == substr(word, 1, length(have)))
-        ended = 1
-    return 0
-}
-
-# whether a number comes next; then goes behind it and keeps it as the line's next figure
-function number_comes(    digits) {
-    match(substr(text, at) ".", /[^0-9]/)
-    digits = substr(text, at, RSTART - 1)
-    if (at > length(text))
-        ended = 1
-    if (digits == "" || length(digits) > 9 || digits ~ /^0./)
-        return 0
-    at += length(digits)
-    figure[++figures] = digits + 0
-    return 1
-}
-
-# whether a part of a line comes next: a blank (_), a number (N), a word, or one of several words (all|any)
-function part_comes(part,    words, word, i) {
-    ended = 0
-    if (part == "_")
-        return word_comes(" ")
-    if (part == "N")
-        return number_comes()
-    words = split(part, word, "|")
-    for (i = 1; i <= words; i++)
-        if (word_comes(word[i]))
-            return 1
-    return 0
-}
-
-# Whether `text` is a line of kind k. If it is not, `at` is the column from which on it differs, `wanted` is the part
-# that was expected there, none if the line's end was, and `ended` is 1 if the line only ends too early.
-function is_line(k,    parts, part, i) {
-    at = 1
-    figures = 0
-    parts = split(parts_of[k], part, " ")
-    for (i = 1; i <= parts; i++) {
-        if (part[i] == "always" && substr(text, at, 1) == "(") {
-            parts = split("( true|false _ N ) ) )", part, " ")
-            i = 1
-        }
-        if (!part_comes(part[i])) {
-            wanted = part[i]
-            return 0
-        }
-    }
-    wanted = ""
-    return at > length(text)
-}
-
-# the kind that `text` begins as, 0 if none
-function kind_of_text(    k) {
-    for (k = 1; k <= kinds; k++)
-        if (index(text, "(" name[k]) == 1)
-            return k
-    return 0
-}
-
-# whether a line of the kinds from `least` to `most` could begin with `text`
-function may_begin(    k) {
-    for (k = least; k <= most; k++)
-        if (index("(" name[k], text) == 1)
-            return 1
-    return text == ""
-}
-
 # Reads the lines of the form, up to the first that is not or the end: `good` is how many there are, with the kind and
-# the figures of each. Of the line behind them `found` is the kind that it begins as, `least` to `most` are the kinds
-# that may stand there, `fits` is 1 if it lacks nothing but its line feed, `ended` is 1 if it only ends too early. The
-# bytes that are too many are left out.
+# the figures of each.
 function read_lines(    n, i) {
     split("", count)
     good = 0
     least = most = 1
-    for (n = 1; ; n++) {
-        text = n == over ? substr(line[n], 1, over_column - 1) : line[n]
-        found = kind_of_text()
-        fits = 0
-        if (found < least || found > most) {
-            ended = may_begin()
-            return
-        }
-        fits = is_line(found)
-        if (!fits || n == over || n > feeds)
-            return
+    for (n = 1; line_comes(n); n++) {
         good = n
         least = found == 1 ? 2 : found
         most = kinds
@@ -157,49 +24,7 @@ function read_lines(    n, i) {
     }
 }
 
-# ---- saying ----
-
-function say(words) {
-    print "  " words
-}
-
-# a line with its number
-function numbered(n) {
-    return "line " n ":" (line[n] == "" ? "" : " " line[n]) (cut[n] ? " .. (cut here)" : "")
-}
-
-# says that line n fails, and why
-function fail(n, words) {
-    print numbered(n)
-    say(words)
-    return 1
-}
-
 # ---- 1: the form ----
-
-# what was expected, in words
-function wanted_words() {
-    if (wanted == "")
-        return "the end of the line"
-    if (wanted == "_")
-        return "a blank"
-    if (wanted == "N")
-        return "a number of " digits_of_number
-    if (wanted == "always")
-        return "always, (true N) or (false N)"
-    sub(/[|]/, "\" or \"", wanted)
-    return "\"" wanted "\""
-}
-
-# why a line that begins as it may is not of the form
-function wrong_inside(n,    why) {
-    why = "from column " at " on, expected " wanted_words()
-    if (ended)
-        return (n > feeds ? "the text" : "the line") " ends too early: " why
-    if (substr(text, at, 4) == "\\x0d")
-        return why "; a carriage return (\\x0d) stands there, and must not"
-    return why
-}
 
 # Says what to do where the part head of a plan line is missing, as in every text of the form that document 01 has, or
 # stands elsewhere than between byte and pick.
@@ -212,30 +37,15 @@ function say_head(    here) {
         say("the part head must stand after byte and before pick")
 }
 
-# why a line does not begin as it may
-function wrong_beginning(n) {
-    if (size == 0)
-        return "the text is empty: the plan line is missing"
-    if (text == "")
-        return "the line is empty"
-    if (n > feeds && ended)
-        return "the text ends within this line"
-    if (index(text, "\\xef\\xbb\\xbf") == 1)
-        return "a byte order mark (\\xef\\xbb\\xbf) stands here, and must not"
+# why a line that begins as another kind does cannot stand here, nothing if it begins as none
+function wrong_kind() {
     if (found > most)
         return "the plan line must be the first"
     if (found == 1)
         return "only the first line is a plan line"
     if (found)
         return "a " name[found] " line cannot stand below " (name[least] == "edge" ? "an " : "a ") name[least] " line"
-    return "no line that may stand here begins so"
-}
-
-# says which lines may stand behind those that are of the form
-function say_kinds(    k) {
-    say("expected a line of " (least == most ? "this form" : "one of these forms") ", N a number of " digits_of_number)
-    for (k = least; k <= most; k++)
-        say("  " form_of[k])
+    return ""
 }
 
 # the first line that is not of the form, or the last line feed that is missing, or the byte that is too many
@@ -250,7 +60,9 @@ function form(    n) {
         say_head()
         say("the form of the line: " form_of[found])
     } else if (n <= feeds || text != "" || size == 0) {
-        fail(n, wrong_beginning(n))
+        fail(n, size ? wrong_beginning(n, wrong_kind()) : "the text is empty: the plan line is missing")
+        if (index(text, "(delay ") == 1)
+            say("a listing begins here; where it is to be checked, an empty line stands before it")
         say_kinds()
     }
 }
@@ -421,8 +233,8 @@ function lines(    n) {
 
 BEGIN {
     longest = 16384
-    widest = 120
-    digits_of_number = "one to nine digits without a needless leading zero"
+    whole = "the text"
+    label = ENVIRON["RISCADRU_PLAN"]
     kinds = split("plan slot process condition edge", name, " ")
     parts_of[1] = "( plan _ ( byte _ N ) _ ( head _ N ) _ ( pick _ urgency|number ) )"
     parts_of[2] = "( slot _ ( node _ N ) _ ( bytes _ N ) )"
@@ -440,8 +252,6 @@ BEGIN {
     range(2, 2, "bytes", 1, 64)
     range(3, 2, "ticks", 1, 100000)
     range(5, 3, "bytes", 1, 64)
-    for (b = 0; b < 256; b++)
-        shown[b] = b >= 32 && b <= 126 && b != 92 ? sprintf("%c", b) : sprintf("\\x%02x", b)
     for (a = 1; a < ARGC; a++)
         if (refused >= 1 && refused <= 9 && read_text(ARGV[a])) {
             read_lines()

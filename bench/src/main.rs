@@ -5,7 +5,8 @@
 //! The first set of lines plans, from lines in memory to words. The others begin with the text of
 //! plans that the planning program accepts: the parts of the baseline, then the way from text to
 //! words and the whole way from text to listing, by the baseline and, if it is built, by our
-//! archive.
+//! archive. The last two check printed listings by our archive alone: reading one, and the whole
+//! check against its parts.
 //!
 //! For each input the least time over all rounds counts; a class's number is the mean over its
 //! inputs. Instructions are counted by valgrind on this program itself, called with the words
@@ -53,9 +54,12 @@ fn print_all() {
 
 /// Measures and prints a class of inputs.
 fn print_class(set: &Set, class: &Class, counted: bool) {
+    let mut ways = (set.ways)();
+    if ways.is_empty() {
+        return;
+    }
     let inputs = inputs(set, class);
     compare(set, &inputs);
-    let mut ways = (set.ways)();
     let times = measure(&mut ways, &inputs);
     let name = class.name();
     let counts: Vec<Option<u64>> = ways
@@ -66,6 +70,10 @@ fn print_class(set: &Set, class: &Class, counted: bool) {
         })
         .collect();
     print!("{name:<16}");
+    if set.listings {
+        let bytes: usize = inputs.iter().map(|input| input.listing.len()).sum();
+        print!("  listing of {} bytes", bytes / inputs.len());
+    }
     for (number, (way, _)) in ways.iter().enumerate() {
         print!("  {way} {}", with_ratio(set, times[number], times[0]));
         if let (Some(count), Some(first)) = (counts[number], counts[0]) {

@@ -79,12 +79,19 @@ const BASELINE: &str = "baseline";
 pub const UNCOUNTED: &str = "reference";
 
 /// A plan as lines and as text, and what the baseline gives for it.
+#[cfg_attr(not(have_archive), allow(dead_code))]
 pub struct Input {
     lines: Lines,
     text: Vec<u8>,
     outcome: Outcome,
     words: Vec<u32>,
     frame_words: Vec<u32>,
+    /// The words of its table as bytes.
+    table: Vec<u8>,
+    /// Its listing, where the planning program accepts it.
+    pub listing: Vec<u8>,
+    /// The same with a byte behind it, so that it is read to its end and refused.
+    longer_listing: Vec<u8>,
 }
 
 /// A name and what is done with an input. What it gives stays in its own memory.
@@ -102,16 +109,19 @@ pub struct Set {
     pub compared: bool,
     /// Whether the inputs are those that the planning program accepts.
     accepted: bool,
+    /// Whether its ways read the listings of the inputs.
+    pub listings: bool,
 }
 
 /// All sets.
-pub const SETS: [Set; 4] = [
+pub const SETS: [Set; 6] = [
     Set {
         name: "planning",
         about: "from lines to words",
         ways: planning,
         compared: true,
         accepted: false,
+        listings: false,
     },
     Set {
         name: "parts",
@@ -119,6 +129,7 @@ pub const SETS: [Set; 4] = [
         ways: parts,
         compared: false,
         accepted: true,
+        listings: false,
     },
     Set {
         name: "words",
@@ -126,6 +137,7 @@ pub const SETS: [Set; 4] = [
         ways: to_words,
         compared: true,
         accepted: true,
+        listings: false,
     },
     Set {
         name: "listing",
@@ -133,6 +145,23 @@ pub const SETS: [Set; 4] = [
         ways: to_listing,
         compared: true,
         accepted: true,
+        listings: false,
+    },
+    Set {
+        name: "reading",
+        about: "an empty listing, and the plan's own with a byte behind it: both are refused with 21",
+        ways: reading_listings,
+        compared: false,
+        accepted: true,
+        listings: true,
+    },
+    Set {
+        name: "checking",
+        about: "the plan's own listing, to planning, checking its table and reading it one after another",
+        ways: checking_listings,
+        compared: true,
+        accepted: true,
+        listings: true,
     },
 ];
 
@@ -148,13 +177,19 @@ pub fn inputs(set: &Set, class: &Class) -> Vec<Input> {
         (WORDS, FRAME_WORDS, class.count as usize)
     };
     let mut planner = Planner::default();
+    let mut program = Program::default();
     let (mut words, mut frame_words) = (vec![0; words], vec![0; frame_words]);
     (0..)
         .map(|number| class.plan(number))
         .filter_map(|lines| {
             let outcome = planner.plan(&lines, &mut words, &mut frame_words).ok()?;
+            let text = reference::print(&lines);
+            let listing = program.listing(&text).to_vec();
             Some(Input {
-                text: reference::print(&lines),
+                text,
+                table: bytes(&words[..outcome.words]),
+                longer_listing: [&listing[..], b"x"].concat(),
+                listing,
                 lines,
                 outcome,
                 words: words[..outcome.words].to_vec(),
@@ -163,6 +198,11 @@ pub fn inputs(set: &Set, class: &Class) -> Vec<Input> {
         })
         .take(count)
         .collect()
+}
+
+/// Words as bytes, the lowest first.
+fn bytes(words: &[u32]) -> Vec<u8> {
+    words.iter().flat_map(|word| word.to_le_bytes()).collect()
 }
 
 fn planning() -> Vec<Way> {
@@ -240,6 +280,14 @@ fn to_listing() -> Vec<Way> {
         .collect()
 }
 
+fn reading_listings() -> Vec<Way> {
+    ours::reading_listings()
+}
+
+fn checking_listings() -> Vec<Way> {
+    ours::checking_listings()
+}
+
 /// Stops the program unless everything that is measured gives for the inputs what the reference
 /// gives.
 pub fn compare(set: &Set, inputs: &[Input]) {
@@ -276,14 +324,10 @@ fn outcome(planned: &reference::Planned) -> Outcome {
 #[cfg(have_archive)]
 mod ours {
     use super::*;
-    use ::ours::archive::{plan_listing, plan_table};
+    use ::ours::archive::{check_listing, check_table, plan_listing, plan_table};
     use bench::printing::LONGEST_LISTING;
 
     const NAME: &str = "ours";
-
-    fn bytes(words: &[u32]) -> Vec<u8> {
-        words.iter().flat_map(|word| word.to_le_bytes()).collect()
-    }
 
     pub fn to_words() -> Option<Way> {
         let mut table = vec![0; PROGRAM_WORDS * 4];
@@ -309,7 +353,34 @@ mod ours {
         Some((NAME, Box::new(go)))
     }
 
+    pub fn reading_listings() -> Vec<Way> {
+        let empty = |input: &Input| {
+            black_box(check_listing(&input.text, &[]));
+        };
+        let whole = |input: &Input| {
+            black_box(check_listing(&input.text, &input.longer_listing));
+        };
+        vec![("empty", Box::new(empty)), ("whole", Box::new(whole))]
+    }
+
+    pub fn checking_listings() -> Vec<Way> {
+        let mut words = to_words().expect("our archive").1;
+        let mut reading = reading_listings().pop().expect("two ways").1;
+        let parts = move |input: &Input| {
+            words(input);
+            black_box(check_table(&input.text, &input.table, input.outcome.delay));
+            reading(input);
+        };
+        let ours = |input: &Input| {
+            black_box(check_listing(&input.text, &input.listing));
+        };
+        vec![("parts", Box::new(parts)), (NAME, Box::new(ours))]
+    }
+
     pub fn compare(input: &Input) {
+        let answers =
+            [&input.listing, &input.longer_listing].map(|l| check_listing(&input.text, l));
+        assert_eq!(answers, [0, u64::MAX - 21]);
         let mut table = vec![0; PROGRAM_WORDS * 4];
         let mut frames = vec![0; PROGRAM_FRAME_WORDS * 4];
         let mut totals = [0; 16];
@@ -344,6 +415,14 @@ mod ours {
 
     pub fn to_listing() -> Option<Way> {
         None
+    }
+
+    pub fn reading_listings() -> Vec<Way> {
+        Vec::new()
+    }
+
+    pub fn checking_listings() -> Vec<Way> {
+        Vec::new()
     }
 
     pub fn compare(_: &Input) {}

@@ -1,8 +1,8 @@
 //! Looks for what the tests need, and sets a `cfg` for each that is there: `have_archive` for the
-//! archive, which is then linked, `have_program` for the planning program, `have_valgrind`,
-//! `have_pkg_config`, `have_terminal` for the program `script`, which lends one, and `have_full` for
-//! the device to which no byte can be written. A test that needs one of the last four is ignored
-//! where that is missing, and says so.
+//! archive, which is then linked, `have_program` for the planning program, `have_check_program` for
+//! the checking program, `have_valgrind`, `have_pkg_config`, `have_terminal` for the program
+//! `script`, which lends one, and `have_full` for the device to which no byte can be written. A test
+//! that needs one of the last four is ignored where that is missing, and says so.
 
 use std::path::{Path, PathBuf};
 
@@ -13,7 +13,9 @@ fn main() {
         println!("cargo:rustc-link-search=native={}", folder.display());
         println!("cargo:rustc-link-lib=static=c_interface");
     }
-    look_for("have_program", &root.join("../../target/bin/riscadru_plan"));
+    let programs = root.join("../../target/bin");
+    look_for("have_program", &programs.join("riscadru_plan"));
+    look_for("have_check_program", &programs.join("riscadru_check"));
     println!("cargo:rerun-if-env-changed=PATH");
     look_for("have_valgrind", &on_path("valgrind"));
     look_for("have_pkg_config", &on_path("pkg-config"));

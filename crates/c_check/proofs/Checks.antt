@@ -17,7 +17,7 @@ use Rattle.checker_table.specs.declared.verdict.Checked.{Checked}
 use Rattle.checker_table.specs.Verdict.{answer-of}
 use Rattle.c_check.specs.Checks.{checked-of, checked-number, checked-answer, Checks}
 
-same-number : (x : m.Refusal) → checked-answer (answer-of x) ≡ checked-number x
+pub same-number : (x : m.Refusal) → checked-answer (answer-of x) ≡ checked-number x
 unfolding answer-of checked-number
 same-number nothing = refl
 same-number (refused n) = refl

@@ -5,3 +5,4 @@ mod table;
 mod text;
 
 pub use text::check_text;
+pub use text::checked;

@@ -8,7 +8,7 @@ ghost use mathlib.Core.Path.{_≡_};
 ghost use Rattle.c_check.specs.Checks.{Checks, checked-answer};
 
 // The number in which the checker's answer is given: 0 for an accepted table, or the refusal.
-fn checked(c: Checked) -> u64
+pub fn checked(c: Checked) -> u64
     ensures { λ r. ⌜ r ≡ checked-answer c ⌝ }
 {
     match c {

@@ -6,6 +6,7 @@ mod copying;
 mod lookup;
 mod planning;
 
+pub use checking::riscadru_check_listing;
 pub use checking::riscadru_check_table;
 pub use copying::riscadru_copy_plan;
 pub use lookup::riscadru_lookup;

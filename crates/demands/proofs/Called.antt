@@ -22,12 +22,15 @@ use Rattle.program.specs.Listing.{Lists-plan}
 use Rattle.program.specs.Printing.{Prints}
 use Rattle.checker_table.specs.declared.verdict.Checked.{Checked}
 use Rattle.checker_table.specs.Verdict as checker
+use Rattle.checker_listing.specs.Listing as checker-listing
+use Rattle.check_program.specs.Answer as check-program
 use Rattle.kernel.specs.declared.search.Found.{Found}
 use Rattle.kernel.specs.Finding.{found-of}
 use Rattle.c_check.specs.Checks.{Checks}
 use Rattle.c_text.specs.Copy.{Copies}
 use Rattle.c_text.specs.Listing.{Lists}
 use Rattle.c_interface.specs.Tables.{Tables}
+use Rattle.c_interface.specs.Listings.{Checks-listing-text}
 use denote.Ref.{RefT}
 use Rattle.demands.specs.Calls as calls
 use Rattle.demands.proofs.Contracts.{Write-plan-said, Plan-table-said, Write-listing-said, Write-refusal-said, Row-entries-said}
@@ -79,6 +82,14 @@ pub check-table-called : (p : Plan) (table : List ℕ) (delay : ℕ) (r : Checke
 check-table-called p table delay r e =
     calls.check-table (record { lifetimes = ([], tt); handed = (p, (lent table, (delay, tt))); result = r; ended = (p, (lent table, (delay, tt))); learnt = e })
 
+pub check-listing-called : (p : Plan) (listing : List ℕ) (r : Checked) → checker-listing.Checks (lines p) listing r → calls.Check-listing p listing r
+check-listing-called p listing r e =
+    calls.check-listing (record { lifetimes = ([], tt); handed = (p, (lent listing, tt)); result = r; ended = (p, (lent listing, tt)); learnt = e })
+
+pub print-check-called : (input out out-now : List ℕ) (r : ℕ) → check-program.Prints input out out-now r → calls.Print-check input out out-now r
+print-check-called input out out-now r e =
+    calls.print-check (record { lifetimes = ([], ([], tt)); handed = (lent input, (lent out, tt)); result = r; ended = (lent input, (lent out-now, tt)); learnt = e })
+
 pub row-entries-called : (place : ℕ × ℕ) (table : List ℕ) (row : ℕ) (part-place : ℕ × ℕ) (part : List ℕ) → Row-entries-said place table row part-place part → calls.Row-entries place table row part-place part
 row-entries-called place table row part-place part e =
     calls.row-entries (record { lifetimes = ([], tt); handed = (lent-at place table, (row, tt)); result = lent-at part-place part; ended = (lent-at place table, (row, tt)); learnt = (e .0, e .1) })
@@ -102,6 +113,10 @@ c-plan-listing-called text out out-now r e =
 pub c-check-table-called : (text table : List ℕ) (delay r : ℕ) → Checks text table delay r → calls.C-check-table text table delay r
 c-check-table-called text table delay r e =
     calls.c-check-table (record { lifetimes = ([], ([], tt)); handed = (lent text, (lent table, (delay, tt))); result = r; ended = (lent text, (lent table, (delay, tt))); learnt = e })
+
+pub c-check-listing-called : (text listing : List ℕ) (r : ℕ) → Checks-listing-text text listing r → calls.C-check-listing text listing r
+c-check-listing-called text listing r e =
+    calls.c-check-listing (record { lifetimes = ([], ([], tt)); handed = (lent text, (lent listing, tt)); result = r; ended = (lent text, (lent listing, tt)); learnt = e })
 
 pub c-lookup-called : (text table : List ℕ) (node tick heard values from r : ℕ) → Answers-lookup text table node tick heard values from r → calls.C-lookup text table node tick heard values from r
 c-lookup-called text table node tick heard values from r e =

@@ -28,6 +28,8 @@ use Rattle.program.specs.Listing.{Lists-plan}
 use Rattle.program.specs.Printing.{Prints}
 use Rattle.checker_table.specs.declared.verdict.Checked.{Checked}
 use Rattle.checker_table.specs.Verdict as checker
+use Rattle.checker_listing.specs.Listing as checker-listing
+use Rattle.check_program.specs.Answer as check-program
 use Rattle.kernel_rows.specs.Part.{words-on}
 use Rattle.kernel.specs.declared.search.Found.{Found}
 use Rattle.kernel.specs.Finding.{found-of}
@@ -35,6 +37,7 @@ use Rattle.c_check.specs.Checks.{Checks}
 use Rattle.c_text.specs.Copy.{Copies}
 use Rattle.c_text.specs.Listing.{Lists}
 use Rattle.c_interface.specs.Tables.{Tables}
+use Rattle.c_interface.specs.Listings.{Checks-listing-text}
 use Rattle.demands.specs.Calls.{Code-keeps, Asks-nothing}
 use Rattle.demands.specs.Calls as calls
 use Rattle.plan.proofs.empty.Met as empty-met
@@ -47,12 +50,15 @@ use Rattle.listing.proofs.write_refusal.Met as write-refusal-met
 use Rattle.program.proofs.list_plan.Met as list-plan-met
 use Rattle.program.proofs.print_all.Met as print-all-met
 use Rattle.checker.proofs.check_table.Met as check-table-met
+use Rattle.checker.proofs.check_listing.Met as check-listing-met
+use Rattle.check_program.proofs.print_check.Met as print-check-met
 use Rattle.kernel_rows.proofs.row_entries.Met as row-entries-met
 use Rattle.kernel.proofs.lookup.Met as lookup-met
 use Rattle.c_interface.proofs.riscadru_copy_plan.Met as c-copy-plan-met
 use Rattle.c_interface.proofs.riscadru_plan_table.Met as c-plan-table-met
 use Rattle.c_interface.proofs.riscadru_plan_listing.Met as c-plan-listing-met
 use Rattle.c_interface.proofs.riscadru_check_table.Met as c-check-table-met
+use Rattle.c_interface.proofs.riscadru_check_listing.Met as c-check-listing-met
 use Rattle.c_interface.proofs.riscadru_lookup.Met as c-lookup-met
 use Rattle.c_interface.proofs.riscadru_row_start.Met as c-row-start-met
 use Rattle.c_interface.proofs.riscadru_row_length.Met as c-row-length-met
@@ -111,6 +117,12 @@ print-all-says (calls.print-all c) = c .learnt
 pub check-table-says : {p : Plan} {table : List ℕ} {delay : ℕ} {r : Checked} → calls.Check-table p table delay r → r ≡ checker.answer-of (check (lines p) table delay)
 check-table-says (calls.check-table c) = c .learnt
 
+pub check-listing-says : {p : Plan} {listing : List ℕ} {r : Checked} → calls.Check-listing p listing r → checker-listing.Checks (lines p) listing r
+check-listing-says (calls.check-listing c) = c .learnt
+
+pub print-check-says : {input out out-now : List ℕ} {count : ℕ} → calls.Print-check input out out-now count → check-program.Prints input out out-now count
+print-check-says (calls.print-check c) = c .learnt
+
 -- what the contract of `kernel_rows::row_entries` says
 abbrev pub Row-entries-said : (place : ℕ × ℕ) → List ℕ → ℕ → (part-place : ℕ × ℕ) → List ℕ → Type 0
 Row-entries-said place table row part-place part =
@@ -136,6 +148,9 @@ c-plan-listing-says (calls.c-plan-listing c) = c .learnt
 pub c-check-table-says : {text table : List ℕ} {delay answer : ℕ} → calls.C-check-table text table delay answer → Checks text table delay answer
 c-check-table-says (calls.c-check-table c) = c .learnt
 
+pub c-check-listing-says : {text listing : List ℕ} {answer : ℕ} → calls.C-check-listing text listing answer → Checks-listing-text text listing answer
+c-check-listing-says (calls.c-check-listing c) = c .learnt
+
 pub c-lookup-says : {text table : List ℕ} {node tick heard values from answer : ℕ} → calls.C-lookup text table node tick heard values from answer →
     Answers-lookup text table node tick heard values from answer
 c-lookup-says (calls.c-lookup c) = c .learnt
@@ -159,12 +174,15 @@ code-keeps =
       list-plan = list-plan-met.met;
       print-all = print-all-met.met;
       check-table = check-table-met.met;
+      check-listing = check-listing-met.met;
+      print-check = print-check-met.met;
       row-entries = row-entries-met.met;
       lookup = lookup-met.met;
       c-copy-plan = c-copy-plan-met.met;
       c-plan-table = c-plan-table-met.met;
       c-plan-listing = c-plan-listing-met.met;
       c-check-table = c-check-table-met.met;
+      c-check-listing = c-check-listing-met.met;
       c-lookup = c-lookup-met.met;
       c-row-start = c-row-start-met.met;
       c-row-length = c-row-length-met.met;
@@ -183,12 +201,15 @@ asks-nothing =
       list-plan = λ κs a. tt;
       print-all = λ κs a. tt;
       check-table = λ κs a. tt;
+      check-listing = λ κs a. tt;
+      print-check = λ κs a. tt;
       row-entries = λ κs a. tt;
       lookup = λ κs a. tt;
       c-copy-plan = λ κs a. tt;
       c-plan-table = λ κs a. tt;
       c-plan-listing = λ κs a. tt;
       c-check-table = λ κs a. tt;
+      c-check-listing = λ κs a. tt;
       c-lookup = λ κs a. tt;
       c-row-start = λ κs a. tt;
       c-row-length = λ κs a. tt;

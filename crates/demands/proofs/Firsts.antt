@@ -8,6 +8,7 @@ use mathlib.Core.List.{List, [], _∷_, _++_}
 use native.Mathlib.Omega.{arith}
 use borrow.Author.Tests.{leb-true}
 use lib.Dec.{leb}
+use Rattle.limits.specs.Limits.{LASTREFUSAL}
 use Rattle.lists.specs.Lists.{all}
 use Rattle.lists.proofs.Tests.{both}
 use Rattle.model.specs.Plan.{Lines}
@@ -47,7 +48,7 @@ unfolding or-else
 one-more n true x y z e = refl
 one-more n false x y z e = e
 
-first-append : (xs ys : List Sentence) → first (xs ++ ys) ≡ or-else (first xs) (first ys)
+pub first-append : (xs ys : List Sentence) → first (xs ++ ys) ≡ or-else (first xs) (first ys)
 unfolding first or-else
 first-append [] ys = refl
 first-append (s ∷ ss) ys = one-more (s .number) (s .applies) (first (ss ++ ys)) (first ss) (first ys) (first-append ss ys)
@@ -55,25 +56,25 @@ first-append (s ∷ ss) ys = one-more (s .number) (s .applies) (first (ss ++ ys)
 pub plan-then : (p : Lines) (more : List Sentence) → first (plan-sentences p ++ more) ≡ or-else (plan-refusal p) (first more)
 plan-then p more = first-append (plan-sentences p) more ∙ ap (λ (x : Refusal). or-else x (first more)) (plan-first p)
 
--- the numbers of the list are 1 to 20
+-- the numbers of the list are 1 to 22
 abbrev pub listed : Sentence → Bool
-listed s = leb 1 (s .number) && leb (s .number) 20
+listed s = leb 1 (s .number) && leb (s .number) LASTREFUSAL
 
-listed-one : (s : Sentence) (b : Bool) (x : Refusal) (n : ℕ) → listed s ≡ true → sentence (s .number) b x ≡ refused n → (x ≡ refused n → (1 ≤ n) × (n ≤ 20)) →
-    (1 ≤ n) × (n ≤ 20)
+listed-one : (s : Sentence) (b : Bool) (x : Refusal) (n : ℕ) → listed s ≡ true → sentence (s .number) b x ≡ refused n → (x ≡ refused n → (1 ≤ n) × (n ≤ LASTREFUSAL)) →
+    (1 ≤ n) × (n ≤ LASTREFUSAL)
 listed-one s true x n h e next =
     let same : s .number ≡ n = cc in
     let l = both _ _ h in
-    (omega (arith, same, leb-true 1 (s .number) (l .0)), omega (arith, same, leb-true (s .number) 20 (l .1)))
+    (omega (arith, same, leb-true 1 (s .number) (l .0)), omega (arith, same, leb-true (s .number) LASTREFUSAL (l .1)))
 listed-one s false x n h e next = next e
 
-pub number-listed : (ss : List Sentence) (n : ℕ) → all listed ss ≡ true → first ss ≡ refused n → (1 ≤ n) × (n ≤ 20)
+pub number-listed : (ss : List Sentence) (n : ℕ) → all listed ss ≡ true → first ss ≡ refused n → (1 ≤ n) × (n ≤ LASTREFUSAL)
 unfolding first
 number-listed [] n h e = absurd (let z : _≡_ {A = ℕ} 0 1 = cc in omega arith)
 number-listed (s ∷ ss) n h e =
     let l = both (listed s) (all listed ss) h in listed-one s (s .applies) (first ss) n (l .0) e (λ q. number-listed ss n (l .1) q)
 
-plan-number : (p : Lines) (n : ℕ) → plan-refusal p ≡ refused n → (1 ≤ n) × (n ≤ 20)
+plan-number : (p : Lines) (n : ℕ) → plan-refusal p ≡ refused n → (1 ≤ n) × (n ≤ LASTREFUSAL)
 unfolding plan-sentences
 plan-number p n e = number-listed (plan-sentences p) n refl (plan-first p ∙ e)
 
@@ -101,7 +102,7 @@ module _ (text : List ℕ) (on : Lines → List Sentence) where
 -- What a text reads as, and the refusal that applies first to it and to what follows 2 to 9: a text that is not read
 -- has its refusal, and one that is read has that of what follows.
 module _ (text : List ℕ) (more : Lines → List Sentence) (Fits : Reading → Refusal → Type 0) where
-  pub by-text : (reading : Reading) → Answers-text text reading → ((n : ℕ) → 1 ≤ n → n ≤ 20 → Fits (not-read n) (refused n)) →
+  pub by-text : (reading : Reading) → Answers-text text reading → ((n : ℕ) → 1 ≤ n → n ≤ LASTREFUSAL → Fits (not-read n) (refused n)) →
       ((p : Lines) → Means text p → plan-refusal p ≡ nothing → Fits (reads p) (first (more p))) →
       (x : Refusal) × First-of-text text (λ p. plan-sentences p ++ more p) x × Fits reading x
   unfolding after-refusal or-else
@@ -145,8 +146,8 @@ keeps-text Refused-with Unchanged Result text on x h told =
 
 -- numbers in which a C function answers: a refusal, and what no refusal is answered in
 module _ (Unchanged Result : Type 0) (answer : ℕ) where
-  pub number-refused : (n : ℕ) → 1 ≤ n → n ≤ 20 → answer ≡ 18446744073709551615 - n → Unchanged → Told (In-number answer) Unchanged Result (refused n)
+  pub number-refused : (n : ℕ) → 1 ≤ n → n ≤ LASTREFUSAL → answer ≡ 18446744073709551615 - n → Unchanged → Told (In-number answer) Unchanged Result (refused n)
   number-refused n l k e u = ((l, k, omega arith), (λ j q. (let a = q .0 in let b = q .1 in let c = q .2 in omega arith)), u)
 
-  pub number-result : answer < 18446744073709551595 → Result → Told (In-number answer) Unchanged Result nothing
+  pub number-result : answer < 18446744073709551593 → Result → Told (In-number answer) Unchanged Result nothing
   number-result l r = ((λ j q. (let a = q .0 in let b = q .1 in let c = q .2 in omega arith)), r)

@@ -2,15 +2,18 @@
 -- means what its printed form says, and what is planned is list scheduling), Three (the checker accepts exactly the
 -- sound tables, those of the planner among them, and an accepted table runs as it should). Contracts has what is
 -- known of a call of each function, and Called that nothing more is. Firsts, Told, Within, OneC and PlannedC (what
--- `riscadru_plan_table` writes, `riscadru_check_table` accepts) are what these rest on. PointOne is document 02's point 1.
+-- `riscadru_plan_table` writes, `riscadru_check_table` accepts) are what these rest on, and Listings for what is
+-- answered to a printed table. PointOne and PointTwo are document 02's points 1 and 2.
 pub mod Contracts
 pub mod Called
 pub mod Firsts
 pub mod Told
 pub mod Within
 pub mod OneC
+pub mod Listings
 pub mod One
 pub mod Two
 pub mod PlannedC
 pub mod Three
 pub mod PointOne
+pub mod PointTwo

@@ -1,6 +1,6 @@
 -- Demand 1 as a theorem over the contracts of the functions that are called: see specs/One.antt.
 -- Assumes nothing.
-use Prim.Native.Nat.{ℕ, _+_, _≤_, _<_}
+use Prim.Native.Nat.{ℕ, _+_, _<_}
 use mathlib.Core.Path.{_≡_, refl, sym, ap, _∙_}
 use mathlib.Core.Logic.{_⊎_, inl, inr}
 use mathlib.Core.List.{List, [], _++_}
@@ -46,6 +46,7 @@ use Rattle.demands.specs.One.{Lies-in, Demand-1}
 use Rattle.demands.proofs.Firsts.{plan-first, bytes-first, room-first, listing-first, table-first, plan-then, text-some, text-one, by-text, Told, keeps-list, keeps-text}
 use Rattle.demands.proofs.Told.{told-read, told-not-read, told-written, told-listed, told-planned, told-checked}
 use Rattle.demands.proofs.OneC.{c-copying, c-listing-plan, c-planning, c-checking, c-looking-up, c-row}
+use Rattle.demands.proofs.Listings.{texts-some, texts-one, checking-listing, printing-check, c-checking-listing}
 use Rattle.demands.proofs.Within.{Finds, finds-none, finds-one, found-within, row-within}
 use Rattle.demands.proofs.Contracts.{
   code-keeps,
@@ -60,12 +61,15 @@ use Rattle.demands.proofs.Contracts.{
   list-plan-says,
   print-all-says,
   check-table-says,
+  check-listing-says,
+  print-check-says,
   row-entries-says,
   lookup-says,
   c-copy-plan-says,
   c-plan-table-says,
   c-plan-listing-says,
   c-check-table-says,
+  c-check-listing-says,
   c-lookup-says,
   c-row-start-says,
   c-row-length-says,
@@ -210,6 +214,8 @@ demand-one =
       asks-nothing = asks-nothing;
       some-first = text-some;
       one-first = text-one;
+      some-first-of-texts = texts-some;
+      one-first-of-texts = texts-one;
       starting = λ p c. empty-says c;
       refusing = λ p r c. plan-first (lines p) ∙ sym (refuse-says c);
       reading = λ text r c. (let h = read-plan-says c in reading text r (h .0) (h .1));
@@ -224,6 +230,8 @@ demand-one =
           let e = refusal-printed text (q .reading) (q .of-text) n h in
           (q .counted ∙ ap length e, q .bytes ∙ ap (λ (z : List ℕ). front z out) e));
       checking = λ p table delay r c. checking p table delay r (check-table-says c);
+      checking-listing = λ p bytes r c. checking-listing p bytes r (check-listing-says c);
+      printing-check = λ input out out-now count c x h. printing-check input out out-now count (print-check-says c) x h;
       looking-up = λ p table node tick heard values from r c. looking-up p table node tick heard values from r (lookup-says c);
       row = λ place table r part-place part c. (let h = row-entries-says c in lies place table r part-place part (h .0) (h .1));
       c-copying = λ text out out-now answer c. c-copying text out out-now answer (c-copy-plan-says c);
@@ -231,6 +239,7 @@ demand-one =
           c-planning text table frames totals table-now frames-now totals-now answer (c-plan-table-says c);
       c-listing-plan = λ text out out-now answer c. c-listing-plan text out out-now answer (c-plan-listing-says c);
       c-checking = λ text table delay answer c. c-checking text table delay answer (c-check-table-says c);
+      c-checking-listing = λ text bytes answer c. c-checking-listing text bytes answer (c-check-listing-says c);
       c-looking-up = λ text table node tick heard values from answer few c.
           c-looking-up text table node tick heard values from answer few (c-lookup-says c);
       c-row = λ table r start many a b. c-row table r start many (c-row-start-says a) (c-row-length-says b);

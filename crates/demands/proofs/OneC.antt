@@ -7,6 +7,7 @@ use mathlib.Core.List.{List, [], _++_}
 use native.Mathlib.Omega.{arith}
 use lib.Dec.{ltb}
 use lib.ListN.{length}
+use Rattle.limits.specs.Limits.{LASTREFUSAL}
 use Rattle.model.specs.Plan.{Lines}
 use Rattle.model.specs.Refusals.{nothing, refused, or-else, plan-refusal}
 use Rattle.model.specs.Refusals as m
@@ -95,7 +96,7 @@ module _ (text table frames totals table-now frames-now totals-now : List ℕ) (
       (ltb (length frames / 4) (length (frame-words (q .frames)))) refl (entries-cap p fine)
       (subst (λ (a : _). Puts a table frames totals table-now frames-now totals-now answer) w c))
 
-  put-turned : (n : ℕ) → 1 ≤ n → n ≤ 20 → (q : Result) → Put (not-read n) → Told (In-number answer) Unchanged (answer ≤ length table) (refused n)
+  put-turned : (n : ℕ) → 1 ≤ n → n ≤ LASTREFUSAL → (q : Result) → Put (not-read n) → Told (In-number answer) Unchanged (answer ≤ length table) (refused n)
   unfolding planned-of answered
   put-turned n l k q c = told-turned q table frames totals table-now frames-now totals-now answer n l k c
 
@@ -111,13 +112,13 @@ module _ (text table frames totals table-now frames-now totals-now : List ℕ) (
       (λ p. plan-sentences p ++ room-sentences (result p) (length table / 4) (length frames / 4)) (x .0) (x .1) (x .2 (c .puts))
 
 -- `riscadru_check_table`
-checked-told : (x : m.Refusal) (answer : ℕ) → ((n : ℕ) → x ≡ refused n → (1 ≤ n) × (n ≤ 20)) → answer ≡ checked-number x →
+pub checked-told : (x : m.Refusal) (answer : ℕ) → ((n : ℕ) → x ≡ refused n → (1 ≤ n) × (n ≤ LASTREFUSAL)) → answer ≡ checked-number x →
     Told (In-number answer) (Unit {0}) (answer ≡ 0) x
 unfolding checked-number
 checked-told nothing answer h e = number-result (Unit {0}) (answer ≡ 0) answer (omega arith) e
 checked-told (refused n) answer h e = let l = h n refl in number-refused (Unit {0}) (answer ≡ 0) answer n (l .0) (l .1) e tt
 
-table-number : (p : Lines) (words : List ℕ) (stated n : ℕ) → table-refusal p words stated ≡ refused n → (1 ≤ n) × (n ≤ 20)
+table-number : (p : Lines) (words : List ℕ) (stated n : ℕ) → table-refusal p words stated ≡ refused n → (1 ≤ n) × (n ≤ LASTREFUSAL)
 unfolding table-sentences
 table-number p words stated n e = number-listed (table-sentences p words stated) n refl (table-first p words stated ∙ e)
 

@@ -10,7 +10,7 @@ use lib.ListN.{length, take}
 use Rattle.model.specs.Plan.{Lines}
 use Rattle.model.specs.Refusals.{Refusal, nothing, or-else, plan-refusal}
 use Rattle.model.specs.Text.{Means, Reading, reads}
-use Rattle.model.specs.Table.{entries-of, plan-answer, table-after}
+use Rattle.model.specs.Table.{entries-of}
 use Rattle.model.specs.Checking.{table-refusal, check, Sound}
 use Rattle.model.specs.Lookup.{Found, entry, none, refusal, unless, lookup}
 use Rattle.model.specs.Firmware.{words-of, found-number, found-in}
@@ -40,7 +40,7 @@ use Rattle.demands.proofs.PlannedC.{c-planned-accepted, c-checked-once}
 use Rattle.demands.proofs.Contracts.{plan-table-says, check-table-says, lookup-says, c-plan-table-says, c-check-table-says, c-lookup-says}
 
 -- what was found, in memory and as a number
-means-back : (f : Found) → means (found-of f) ≡ f
+pub means-back : (f : Found) → means (found-of f) ≡ f
 means-back (entry i) = refl
 means-back none = refl
 means-back (refusal n) = refl
@@ -50,7 +50,7 @@ unfolding number-means found-number
 means-found f count (finds-none q) few = ap (λ (g : Found). number-means (found-number g)) q ∙ sym q
 means-found f count (finds-one k q l i) few =
     ap (λ (g : Found). number-means (found-number g)) q
-    ∙ (rw (ne-eqb k 18446744073709551615 (λ z. omega arith), le-ltb 18446744073709551594 k (omega arith)) (sym q))
+    ∙ (rw (ne-eqb k 18446744073709551615 (λ z. omega arith), le-ltb 18446744073709551592 k (omega arith)) (sym q))
 
 -- in memory
 module _ (p : Plan) (table : List ℕ) (delay : ℕ) where

@@ -8,6 +8,7 @@ use native.Mathlib.Omega.{arith}
 use borrow.Author.Tests.{ltb-false}
 use lib.Dec.{ltb}
 use lib.ListN.{length}
+use Rattle.limits.specs.Limits.{LASTREFUSAL}
 use Rattle.model.specs.Plan.{Lines}
 use Rattle.model.specs.Refusals.{nothing, refused, sentence, plan-refusal}
 use Rattle.model.specs.Refusals as m
@@ -134,7 +135,7 @@ module _ (q : Result) (table frames totals table-now frames-now totals-now : Lis
       let e : answer ≡ 4 * length (entry-words (q .entries)) = s .number in
       number-result Unchanged (answer ≤ length table) answer (omega arith) (omega (arith, ltb-false (length table / 4) (length (entry-words (q .entries))) t))
 
-  pub told-turned : (n : ℕ) → 1 ≤ n → n ≤ 20 → Puts (answered (refused n) q) table frames totals table-now frames-now totals-now answer →
+  pub told-turned : (n : ℕ) → 1 ≤ n → n ≤ LASTREFUSAL → Puts (answered (refused n) q) table frames totals table-now frames-now totals-now answer →
       Told (In-number answer) ((table-now ≡ table) × (frames-now ≡ frames) × (totals-now ≡ totals)) (answer ≤ length table) (refused n)
   unfolding answered table-number table-bytes-after frame-bytes-after totals-after
   told-turned n l k s = number-refused Unchanged (answer ≤ length table) answer n l k (s .number) (s .bytes .table-bytes, s .bytes .frame-bytes, s .bytes .total-bytes)

@@ -47,6 +47,12 @@ use Rattle.program.proofs.print_all.Reads as print-all-reads
 use Rattle.checker.proofs.check_table.Statement as check-table-statement
 use Rattle.checker.proofs.check_table.Kinds as check-table-kinds
 use Rattle.checker.proofs.check_table.Reads as check-table-reads
+use Rattle.checker.proofs.check_listing.Statement as check-listing-statement
+use Rattle.checker.proofs.check_listing.Kinds as check-listing-kinds
+use Rattle.checker.proofs.check_listing.Reads as check-listing-reads
+use Rattle.check_program.proofs.print_check.Statement as print-check-statement
+use Rattle.check_program.proofs.print_check.Kinds as print-check-kinds
+use Rattle.check_program.proofs.print_check.Reads as print-check-reads
 use Rattle.kernel_rows.proofs.row_entries.Statement as row-entries-statement
 use Rattle.kernel_rows.proofs.row_entries.Kinds as row-entries-kinds
 use Rattle.kernel_rows.proofs.row_entries.Reads as row-entries-reads
@@ -65,6 +71,9 @@ use Rattle.c_interface.proofs.riscadru_plan_listing.Reads as c-plan-listing-rea
 use Rattle.c_interface.proofs.riscadru_check_table.Statement as c-check-table-statement
 use Rattle.c_interface.proofs.riscadru_check_table.Kinds as c-check-table-kinds
 use Rattle.c_interface.proofs.riscadru_check_table.Reads as c-check-table-reads
+use Rattle.c_interface.proofs.riscadru_check_listing.Statement as c-check-listing-statement
+use Rattle.c_interface.proofs.riscadru_check_listing.Kinds as c-check-listing-kinds
+use Rattle.c_interface.proofs.riscadru_check_listing.Reads as c-check-listing-reads
 use Rattle.c_interface.proofs.riscadru_lookup.Statement as c-lookup-statement
 use Rattle.c_interface.proofs.riscadru_lookup.Kinds as c-lookup-kinds
 use Rattle.c_interface.proofs.riscadru_lookup.Reads as c-lookup-reads
@@ -139,6 +148,16 @@ pub data Check-table : (plan : Plan) → (table : List ℕ) → (delay : ℕ) �
   check-table : (c : Call check-table-kinds.ps check-table-kinds.r check-table-reads.Learnt) →
       Check-table (c .handed .0) (c .handed .1 .0 .now) (c .handed .1 .1 .0) (c .result)
 
+-- `checker::check_listing`: a plan and a listing text, and the answer
+pub data Check-listing : (plan : Plan) → (listing : List ℕ) → (answer : Checked) → Type 0 where
+  check-listing : (c : Call check-listing-kinds.ps check-listing-kinds.r check-listing-reads.Learnt) →
+      Check-listing (c .handed .0) (c .handed .1 .0 .now) (c .result)
+
+-- `check_program::print_check`: an input and the bytes lent, those bytes afterwards, and how many were written
+pub data Print-check : (input out out-now : List ℕ) → (count : ℕ) → Type 0 where
+  print-check : (c : Call print-check-kinds.ps print-check-kinds.r print-check-reads.Learnt) →
+      Print-check (c .handed .0 .now) (c .handed .1 .0 .now) (c .ended .1 .0 .now) (c .result)
+
 -- `kernel_rows::row_entries`: where a table lies, its words and a row; where the part handed back lies, and its words
 pub data Row-entries : (place : ℕ × ℕ) → (table : List ℕ) → (row : ℕ) → (part-place : ℕ × ℕ) → (part : List ℕ) → Type 0 where
   row-entries : (c : Call row-entries-kinds.ps row-entries-kinds.r row-entries-reads.Learnt) →
@@ -170,6 +189,11 @@ pub data C-check-table : (text table : List ℕ) → (delay answer : ℕ) → Ty
   c-check-table : (c : Call c-check-table-kinds.ps c-check-table-kinds.r c-check-table-reads.Learnt) →
       C-check-table (c .handed .0 .now) (c .handed .1 .0 .now) (c .handed .1 .1 .0) (c .result)
 
+-- `riscadru_check_listing`: a plan text and a listing text, and the number answered
+pub data C-check-listing : (text listing : List ℕ) → (answer : ℕ) → Type 0 where
+  c-check-listing : (c : Call c-check-listing-kinds.ps c-check-listing-kinds.r c-check-listing-reads.Learnt) →
+      C-check-listing (c .handed .0 .now) (c .handed .1 .0 .now) (c .result)
+
 -- `riscadru_lookup`: a text, a table's bytes, node, tick, heard bits, values and the entry to begin at, and the
 -- number answered
 pub data C-lookup : (text table : List ℕ) → (node tick heard values from answer : ℕ) → Type 0 where
@@ -199,12 +223,15 @@ pub record Code-keeps : Type 2 where
   pub list-plan : {M : Type 1} → list-plan-statement.statement M
   pub print-all : {M : Type 1} → print-all-statement.statement M
   pub check-table : {M : Type 1} → check-table-statement.statement M
+  pub check-listing : {M : Type 1} → check-listing-statement.statement M
+  pub print-check : {M : Type 1} → print-check-statement.statement M
   pub row-entries : {M : Type 1} → row-entries-statement.statement M
   pub lookup : {M : Type 1} → lookup-statement.statement M
   pub c-copy-plan : {M : Type 1} → c-copy-plan-statement.statement M
   pub c-plan-table : {M : Type 1} → c-plan-table-statement.statement M
   pub c-plan-listing : {M : Type 1} → c-plan-listing-statement.statement M
   pub c-check-table : {M : Type 1} → c-check-table-statement.statement M
+  pub c-check-listing : {M : Type 1} → c-check-listing-statement.statement M
   pub c-lookup : {M : Type 1} → c-lookup-statement.statement M
   pub c-row-start : {M : Type 1} → c-row-start-statement.statement M
   pub c-row-length : {M : Type 1} → c-row-length-statement.statement M
@@ -221,12 +248,15 @@ pub record Asks-nothing : Type 0 where
   pub list-plan : Total list-plan-kinds.ps list-plan-reads.Asked
   pub print-all : Total print-all-kinds.ps print-all-reads.Asked
   pub check-table : Total check-table-kinds.ps check-table-reads.Asked
+  pub check-listing : Total check-listing-kinds.ps check-listing-reads.Asked
+  pub print-check : Total print-check-kinds.ps print-check-reads.Asked
   pub row-entries : Total row-entries-kinds.ps row-entries-reads.Asked
   pub lookup : Total lookup-kinds.ps lookup-reads.Asked
   pub c-copy-plan : Total c-copy-plan-kinds.ps c-copy-plan-reads.Asked
   pub c-plan-table : Total c-plan-table-kinds.ps c-plan-table-reads.Asked
   pub c-plan-listing : Total c-plan-listing-kinds.ps c-plan-listing-reads.Asked
   pub c-check-table : Total c-check-table-kinds.ps c-check-table-reads.Asked
+  pub c-check-listing : Total c-check-listing-kinds.ps c-check-listing-reads.Asked
   pub c-lookup : Total c-lookup-kinds.ps c-lookup-reads.Asked
   pub c-row-start : Total c-row-start-kinds.ps c-row-start-reads.Asked
   pub c-row-length : Total c-row-length-kinds.ps c-row-length-reads.Asked

@@ -47,9 +47,9 @@ Numbers = ℕ → ℕ → ℕ → ℕ → ℕ → ℕ
 abbrev pub By-c-lookup : List ℕ → List ℕ → Lines → Numbers → Type 0
 By-c-lookup text table p answers = Asked p (words-of table) (λ n t h v from. calls.C-lookup text table n t h v from (answers n t h v from))
 
--- what a number means to the firmware: 2^64 - 1 is none, the 20 numbers below it are refusals, any other is an entry's
+-- what a number means to the firmware: 2^64 - 1 is none, the 22 numbers below it are refusals, any other is an entry's
 unfoldable pub number-means : ℕ → m.Found
-number-means x = if eqb x 18446744073709551615 then none else if ltb 18446744073709551594 x then refusal (18446744073709551615 - x) else entry x
+number-means x = if eqb x 18446744073709551615 then none else if ltb 18446744073709551592 x then refusal (18446744073709551615 - x) else entry x
 
 abbrev pub asked-numbers : Numbers → Ask
 asked-numbers answers n t h v from = number-means (answers n t h v from)

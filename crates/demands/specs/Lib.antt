@@ -5,3 +5,4 @@ pub mod One
 pub mod Two
 pub mod Three
 pub mod PointOne
+pub mod PointTwo

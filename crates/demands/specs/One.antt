@@ -14,6 +14,7 @@ use Rattle.model.specs.Refusals as m
 use Rattle.model.specs.Text.{print, Means}
 use Rattle.model.specs.Table.{result, entries-of}
 use Rattle.model.specs.Listing.{words-listing, refused-line}
+use Rattle.model.specs.ListingText.{plan-part, listing-part, check-prints}
 use Rattle.model.specs.Firmware.{words-of}
 use Rattle.plan.specs.declared.Plan.{Plan}
 use Rattle.plan.specs.Memory.{lines, empty-plan}
@@ -43,6 +44,8 @@ use Rattle.demands.specs.Sentences.{
   table-sentences,
   First-of,
   First-of-text,
+  First-of-check,
+  First-of-texts,
   Keeps-to,
   In-number,
 }
@@ -61,6 +64,9 @@ pub record Demand-1 : Type 2 where
   -- to every text one refusal applies first, or none
   pub some-first : (text : List ℕ) (on : Lines → List Sentence) → (x : m.Refusal) × First-of-text text on x
   pub one-first : (text : List ℕ) (on : Lines → List Sentence) (x y : m.Refusal) → First-of-text text on x → First-of-text text on y → x ≡ y
+  -- and so to every plan text with a listing
+  pub some-first-of-texts : (text listing : List ℕ) → (x : m.Refusal) × First-of-texts text listing x
+  pub one-first-of-texts : (text listing : List ℕ) (x y : m.Refusal) → First-of-texts text listing x → First-of-texts text listing y → x ≡ y
   -- `plan::empty`: no sentence is tried
   pub starting : (p : Plan) → calls.Empty p → p ≡ empty-plan
   -- `plan_refusals::refuse`
@@ -99,6 +105,14 @@ pub record Demand-1 : Type 2 where
   pub checking : (p : Plan) (table : List ℕ) (delay : ℕ) (r : Checked) → calls.Check-table p table delay r →
       Keeps-to (First-of (plan-sentences (lines p) ++ table-sentences (lines p) table delay)) (λ n. r ≡ checked.Refused n)
       (Unit {0}) (r ≡ checked.Accepted)
+  -- `checker::check_listing`: nothing is lent for writing
+  pub checking-listing : (p : Plan) (listing : List ℕ) (r : Checked) → calls.Check-listing p listing r →
+      Keeps-to (First-of-check (lines p) listing) (λ n. r ≡ checked.Refused n) (Unit {0}) (r ≡ checked.Accepted)
+  -- `check_program::print_check`, which the program that checks a printed table runs: the first refusal that applies is
+  -- printed, or that there is none
+  pub printing-check : (input out out-now : List ℕ) (count : ℕ) → calls.Print-check input out out-now count → (x : m.Refusal) →
+      First-of-texts (plan-part input) (listing-part input) x →
+      (count ≡ length (check-prints x)) × (out-now ≡ front (check-prints x) out)
   -- `kernel::lookup`: an entry that the table has, or none
   pub looking-up : (p : Plan) (table : List ℕ) (node tick heard values from : ℕ) (r : Found) →
       calls.Lookup p table node tick heard values from r →
@@ -124,6 +138,9 @@ pub record Demand-1 : Type 2 where
   pub c-checking : (text table : List ℕ) (delay answer : ℕ) → calls.C-check-table text table delay answer →
       Keeps-to (First-of-text text (λ p. plan-sentences p ++ table-sentences p (words-of table) delay)) (In-number answer)
       (Unit {0}) (answer ≡ 0)
+  -- `riscadru_check_listing`: nothing is lent for writing
+  pub c-checking-listing : (text listing : List ℕ) (answer : ℕ) → calls.C-check-listing text listing answer →
+      Keeps-to (First-of-texts text listing) (In-number answer) (Unit {0}) (answer ≡ 0)
   -- `riscadru_lookup`: none as 2^64 - 1, or the number of an entry that the table has. The table has fewer than 2^64
   -- bytes, as every lent slice: its length is a number of 64 bits. So an entry's number is never one in which a refusal
   -- is answered.

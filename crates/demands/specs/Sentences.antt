@@ -1,18 +1,20 @@
--- Document 01, "Refused, in checking order", as lists of sentences, each with whether it applies; the first of a list
--- that applies; and what it means that an answer keeps to it.
+-- Document 01, "Refused, in checking order", and refusals 21 and 22 of document 02, as lists of sentences, each with
+-- whether it applies; the first of a list that applies; and what it means that an answer keeps to it.
 -- Assumes nothing.
 use Prim.Native.Nat.{ℕ, _-_, _%_, _≤_, _<_}
 use mathlib.Core.Path.{_≡_}
 use mathlib.Core.Bool.{Bool, not, _||_}
-use mathlib.Core.List.{List, [], _∷_}
+use mathlib.Core.List.{List, [], _∷_, _++_}
 use lib.Dec.{eqb, ltb}
 use lib.ListN.{length}
+use Rattle.limits.specs.Limits.{LASTREFUSAL}
 use Rattle.lists.specs.Lists.{any}
 use Rattle.model.specs.Plan.{Lines, edges}
 use Rattle.model.specs.Refusals.{Refusal, nothing, refused, sentence, wrong-counts, wrong-sizes, wrong-nodes, wrong-deciders, wrong-ends, twin-edges, wrong-when, too-long}
 use Rattle.model.specs.Text.{Means}
 use Rattle.model.specs.Table.{Result, result, entry-words, frame-words, entries-of}
 use Rattle.model.specs.Listing.{plan-listing}
+use Rattle.model.specs.ListingText.{States, other-frames, other-count}
 use Rattle.model.specs.Checking.{ill-formed, in-some, not-once, uses-unknown, too-early, off-slot, overlap, share-byte, greatest-delay}
 
 -- a sentence of the list: its number, and whether it applies
@@ -81,6 +83,29 @@ pub data First-of-text (text : List ℕ) (on : Lines → List Sentence) : Refusa
   not-of-the-form : ((p : Lines) → Means text p → ⊥) → First-of-text text on (refused 1)
   of-lines : (p : Lines) → Means text p → length text ≤ 16384 → First-of-text text on (first (on p))
 
+-- 22, on what a listing states
+unfoldable pub frame-sentences : Lines → Result → List Sentence
+frame-sentences p r = says 22 (other-frames p r || other-count p r) ∷ []
+
+-- x is the first that applies to a listing, where 2 to 9 find nothing in its plan: 21, "the listing is not of its form,
+-- or has over 3,000 entries or 2,000 frames", or the first of 12 to 20 and 22 on what it states
+pub data First-of-listing (p : Lines) (bytes : List ℕ) : Refusal → Type 0 where
+  not-of-its-form : ((r : Result) → States p bytes r → ⊥) → First-of-listing p bytes (refused 21)
+  of-what-it-states : (r : Result) → States p bytes r →
+      First-of-listing p bytes (first (table-sentences p (entry-words (r .entries)) (r .delay) ++ frame-sentences p r))
+
+-- the same for any plan: 2 to 9 first
+pub data First-of-check (p : Lines) (bytes : List ℕ) : Refusal → Type 0 where
+  of-plan : (n : ℕ) → First-of (plan-sentences p) (refused n) → First-of-check p bytes (refused n)
+  of-listing : (x : Refusal) → First-of (plan-sentences p) nothing → First-of-listing p bytes x → First-of-check p bytes x
+
+-- and for a plan text: 1 first
+pub data First-of-texts (text bytes : List ℕ) : Refusal → Type 0 where
+  text-exceeds : 16384 < length text → First-of-texts text bytes (refused 1)
+  text-not-of-the-form : ((p : Lines) → Means text p → ⊥) → First-of-texts text bytes (refused 1)
+  of-text : (p : Lines) (x : Refusal) → Means text p → length text ≤ 16384 → First-of-check p bytes x →
+      First-of-texts text bytes x
+
 -- An answer keeps to the first refusal that applies. `Refused-with n` says that the answer is refusal n, `Unchanged`
 -- that every lent buffer holds what it held, `Result` that the answer is a result.
 pub record Keeps-to (Is-first : Refusal → Type 0) (Refused-with : ℕ → Type 0) (Unchanged Result : Type 0) : Type 0 where
@@ -90,4 +115,4 @@ pub record Keeps-to (Is-first : Refusal → Type 0) (Refused-with : ℕ → Type
 
 -- the number in which a C function answers refusal n: n below 2^64 - 1
 abbrev pub In-number : ℕ → ℕ → Type 0
-In-number answer n = (1 ≤ n) × (n ≤ 20) × (answer ≡ 18446744073709551615 - n)
+In-number answer n = (1 ≤ n) × (n ≤ LASTREFUSAL) × (answer ≡ 18446744073709551615 - n)

@@ -4,13 +4,16 @@ use mathlib.Core.Path.{_≡_, refl, ap, _∙_}
 use mathlib.Core.Logic.{_↔_}
 use mathlib.Core.Bool.{Bool, true, false}
 use mathlib.Core.List.{List, [], _∷_, List·Memᴰ as In, List·Memᴰ·head as here, List·Memᴰ·tail as there, List·Memᴰ·not-nil as in-none}
-use Prim.Native.Nat.{ℕ, zero, suc}
+use Prim.Native.Nat.{ℕ, zero, suc, _^_, _≤_}
+use native.Mathlib.Nat.{pow-suc, pow-le-pow-right}
 use native.Mathlib.Omega.{arith}
 use lib.ListN.{length}
 use Rattle.lists.proofs.Members.{each-in, in-each, none-in, any-false}
+use Rattle.lists.proofs.Sums.{length-each}
 use Rattle.model.specs.Plan.{Lines}
 use Rattle.model.specs.Activity.{combinations-of, combinations}
 use Rattle.model.specs.Checking.{in-some}
+use Rattle.laws.proofs.Good.{Good}
 
 every-list : (n : ℕ) (c : List Bool) → length c ≡ n → In c (combinations-of n)
 every-list zero [] l = here refl
@@ -32,7 +35,16 @@ list-length (suc n) c m = let r = each-in (λ c. (false ∷ c) ∷ (true ∷ c) 
     at d l (there (here q)) = ap length q ∙ ap suc l
     at d l (there (there k)) = absurd (in-none k)
 
+few-lists : (n : ℕ) → length (combinations-of n) ≤ 2 ^ n
+few-lists zero = omega arith
+few-lists (suc n) = omega (arith, few-lists n, pow-suc 2 n, length-each (λ (c : List Bool). (false ∷ c) ∷ (true ∷ c) ∷ []) (combinations-of n) 2 (λ c m. omega arith))
+
 module _ (p : Lines) where
+  pub few-combinations : Good p → length (combinations p) ≤ 64
+  few-combinations g =
+      let q : 2 ^ length (p .conditions) ≤ 2 ^ 6 = pow-le-pow-right (omega arith) (g .few-conditions) in
+      omega (arith, few-lists (length (p .conditions)))
+
   pub in-combinations : (c : List Bool) → length c ≡ length (p .conditions) → In c (combinations p)
   in-combinations c l = every-list (length (p .conditions)) c l
 

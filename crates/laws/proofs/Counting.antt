@@ -4,62 +4,37 @@
 -- Assumes nothing.
 use mathlib.Core.Path.{_≡_}
 use mathlib.Core.Bool.{Bool, true, false}
-use mathlib.Core.List.{List, [], _∷_, map, List·Memᴰ as In}
-use Prim.Native.Nat.{ℕ, zero, suc, _*_, _^_, _≤_, _<_}
-use native.Mathlib.Nat.{pow-suc, pow-le-pow-right, mul-le-mul-left}
+use mathlib.Core.List.{List, map, List·Memᴰ as In}
+use Prim.Native.Nat.{_*_, _≤_, _<_}
+use native.Mathlib.Nat.{mul-le-mul-left}
 use native.Mathlib.Omega.{arith}
 use lib.ListN.{length, length-map}
-use borrow.Author.Tests.{leb-false}
 use Rattle.lists.specs.Lists.{any, keep, repeated}
-use Rattle.lists.proofs.Tests.{neither, is-true}
+use Rattle.lists.proofs.Tests.{is-true}
 use Rattle.lists.proofs.Members.{none-in, map-in, one-or-none}
 use Rattle.lists.proofs.Counts.{passing-few}
 use Rattle.lists.proofs.Different.{different-few}
-use Rattle.lists.proofs.Sums.{length-each}
 use Rattle.model.specs.Plan.{Lines}
-use Rattle.model.specs.Activity.{all-heard, combinations-of, combinations}
+use Rattle.model.specs.Activity.{all-heard, combinations}
 use Rattle.model.specs.Bus.{rows}
 use Rattle.model.specs.Log.{Placed, Log}
 use Rattle.model.specs.Refusals.{nothing, plan-refusal}
 use Rattle.model.specs.Table.{Entry, column-met}
 use Rattle.model.specs.Checking.{ill-formed, own, met-entries, met-log, due, not-once, in-some}
+use Rattle.laws.proofs.Combinations.{few-combinations, in-combinations, combination-length, in-no}
+use Rattle.laws.proofs.Formed.{formed}
 use Rattle.laws.proofs.Good.{good}
-use Rattle.laws.proofs.Columns.{met-by}
-use Rattle.laws.proofs.Combinations.{in-combinations, combination-length, in-no}
-use Rattle.laws.proofs.Lawful.{once-different, met-of}
+use Rattle.laws.proofs.Lawful.{once-different, met-of, met-somewhere}
 use Rattle.laws.proofs.Checks.{none-14}
 
-few-combinations : (n : ℕ) → length (combinations-of n) ≤ 2 ^ n
-few-combinations zero = omega arith
-few-combinations (suc n) =
-    omega (arith, few-combinations n, pow-suc 2 n, length-each (λ c. (false ∷ c) ∷ (true ∷ c) ∷ []) (combinations-of n) 2 (λ c m. omega arith))
-
--- the row and the known bits of an entry in which refusal 13 finds nothing
-within : (p : Lines) (e : Entry) → ill-formed p e ≡ false → (e .row < rows p) × (e .known < 2 ^ length (p .conditions))
-unfolding ill-formed
-within p e f =
-    let a7 = neither _ _ f in
-    let a6 = neither _ _ (a7 .0) in
-    let a5 = neither _ _ (a6 .0) in
-    let a4 = neither _ _ (a5 .0) in
-    let a3 = neither _ _ (a4 .0) in
-    (leb-false _ _ (neither _ _ (a3 .0) .0), leb-false _ _ (a3 .1))
-
-module _ (p : Lines) (fine : plan-refusal p ≡ nothing) (es : List Entry) (formed : any (ill-formed p) es ≡ false) where
-  -- each entry is met in some combination
-  met-somewhere : (e : Entry) → In e es → (c : List Bool) × In c (combinations p) × (column-met (all-heard c) e ≡ true)
-  unfolding column-met
-  met-somewhere e m =
-      let r = met-by 32 (length (p .conditions)) (e .known) (e .values) (omega (arith, good p fine .few-conditions)) (within p e (none-in (ill-formed p) formed m) .1) in
-      (r .0, in-combinations p (r .0) (r .1), r .2)
-
+module _ (p : Lines) (fine : plan-refusal p ≡ nothing) (es : List Entry) (well : any (ill-formed p) es ≡ false) where
   -- where 14 finds nothing, a combination meets no more entries than there are rows
   met-few : (c : List Bool) → not-once p es c ≡ false → length (keep (column-met (all-heard c)) es) ≤ rows p
   unfolding met-log met-entries
   met-few c h =
       let log : Log = met-log es c in
       let low : (x : Placed) → In x log → x .row < rows p =
-      λ x m. (let e = met-of es c x m in rw (e .3) (within p (e .0) (none-in (ill-formed p) formed (e .1)) .0)) in
+      λ x m. (let e = met-of es c x m in rw (e .3) (formed p (e .0) (none-in (ill-formed p) well (e .1)) .row-in)) in
       let once : repeated (map (λ x. x .row) log) ≡ false =
       once-different log (λ x m. (let n = none-14 p es c .0 h (x .row) (low x m) in omega (arith, one-or-none (due p c (x .row))))) in
       let few : length (map (λ x. x .row) log) ≤ rows p =
@@ -70,10 +45,9 @@ module _ (p : Lines) (fine : plan-refusal p ≡ nothing) (es : List Entry) (form
   pub entries-few : in-some p (not-once p es) ≡ false → length es ≤ 64 * rows p
   entries-few h =
       let g = good p fine in
-      let n = passing-few (λ c e. column-met (all-heard c) e) (rows p) (combinations p) es met-somewhere (λ c m. met-few c (in-no p (not-once p es) .0 h c (combination-length p c m))) in
-      let q : 2 ^ length (p .conditions) ≤ 64 = pow-le-pow-right {n = 2} (omega arith) {i = length (p .conditions)} {j = 6} (g .few-conditions) in
-      let m : length (combinations p) ≤ 64 = omega (arith, few-combinations (length (p .conditions))) in
-      omega (arith, mul-le-mul-left (rows p) m)
+      let n = passing-few (λ c e. column-met (all-heard c) e) (rows p) (combinations p) es
+      (λ e m. let c = met-somewhere p g e (none-in (ill-formed p) well m) in (c .0, in-combinations p (c .0) (c .1), c .2)) (λ c m. met-few c (in-no p (not-once p es) .0 h c (combination-length p c m))) in
+      omega (arith, mul-le-mul-left (rows p) (few-combinations p g))
 
   -- so where there are more than 64 times 198, 14 applies in some combination
   pub too-many : 12672 < length es → in-some p (not-once p es) ≡ true

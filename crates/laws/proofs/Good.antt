@@ -14,7 +14,7 @@ use Rattle.lists.proofs.Members.{none-in, none-at, in-below, map-in}
 use Rattle.lists.proofs.Different.{all-there}
 use Rattle.model.specs.Plan.{Lines, Slot, Process, Edge, waits-all, When, always, on, process, edge, decider, local, unit, units}
 use Rattle.model.specs.Bus.{slot-of}
-use Rattle.model.specs.Refusals.{Refusal, nothing, sentence, outside, twin-edges, undecided, wrong-counts, wrong-plan, wrong-slot, wrong-edge, wrong-ticks, wrong-sizes, no-node, wrong-nodes, no-process, wrong-deciders, wrong-ends, wrong-when, too-long, plan-refusal}
+use Rattle.model.specs.Refusals.{Refusal, nothing, refused, sentence, or-else, outside, twin-edges, undecided, wrong-counts, wrong-plan, wrong-slot, wrong-edge, wrong-ticks, wrong-sizes, no-node, wrong-nodes, no-process, wrong-deciders, wrong-ends, wrong-when, too-long, plan-refusal}
 
 pub record Good (p : Lines) : Type 0 where
   pub few-slots : length (p .slots) ≤ 8
@@ -48,6 +48,11 @@ pub record Good (p : Lines) : Type 0 where
 pub pass : (n : ℕ) (b : Bool) (r : Refusal) → sentence n b r ≡ nothing → (b ≡ false) × (r ≡ nothing)
 pass n true r e = absurd (let z : _≡_ {A = ℕ} 0 1 = cc in omega arith)
 pass n false r e = (refl, e)
+
+pub or-nothing : (a b : Refusal) → or-else a b ≡ nothing → (a ≡ nothing) × (b ≡ nothing)
+unfolding or-else
+or-nothing nothing b h = (refl, h)
+or-nothing (refused n) b h = absurd (let z : _≡_ {A = ℕ} 0 1 = cc in omega arith)
 
 pub inside : (lo hi x : ℕ) → outside lo hi x ≡ false → (lo ≤ x) × (x ≤ hi)
 unfolding outside

@@ -8,9 +8,9 @@ use Prim.Native.Nat.{ℕ, suc, _≤_, _<_}
 use native.Mathlib.Omega.{arith}
 use lib.Dec.{eqb}
 use lib.ListN.{length}
-use borrow.Author.Tests.{eqb-true, eq-eqb, ltb-false, leb-false}
+use borrow.Author.Tests.{eqb-true, eq-eqb}
 use Rattle.lists.specs.Lists.{if_then_else_, repeated}
-use Rattle.lists.proofs.Tests.{is-false, same-test, neither}
+use Rattle.lists.proofs.Tests.{is-false, same-test}
 use Rattle.lists.proofs.Members.{in-map, map-in, keep-in, in-keep, in-length, only}
 use Rattle.lists.proofs.Different.{different-none, different-cons, different-parts}
 use Rattle.model.specs.Plan.{Lines}
@@ -19,6 +19,9 @@ use Rattle.model.specs.Bus.{rows}
 use Rattle.model.specs.Log.{Placed, Log, of-row, placed}
 use Rattle.model.specs.Table.{Entry, column-met}
 use Rattle.model.specs.Checking.{ill-formed, own, met-entries, met-log, due}
+use Rattle.laws.proofs.Columns.{met-by}
+use Rattle.laws.proofs.Formed.{formed}
+use Rattle.laws.proofs.Good.{Good}
 use Rattle.laws.proofs.Rows.{placed-in}
 use Rattle.laws.proofs.Rules.{Lawful}
 
@@ -54,14 +57,7 @@ once-different (x ∷ log) h =
     fewer y false l = l
 
 pub formed-row : (p : Lines) (e : Entry) → ill-formed p e ≡ false → (e .row < rows p) × (e .tick ≤ 999999999)
-unfolding ill-formed
-formed-row p e f =
-    let a7 = neither _ _ f in
-    let a6 = neither _ _ (a7 .0) in
-    let a5 = neither _ _ (a6 .0) in
-    let a4 = neither _ _ (a5 .0) in
-    let a3 = neither _ _ (a4 .0) in
-    (leb-false _ _ (neither _ _ (a3 .0) .0), ltb-false _ _ (a5 .1))
+formed-row p e f = let h = formed p e f in (h .row-in, h .tick-in)
 
 -- a start or item is an entry's whose column the combination meets
 module _ (es : List Entry) (c : List Bool) where
@@ -75,6 +71,11 @@ module _ (es : List Entry) (c : List Bool) where
   pub to-met : (e : Entry) → In e es → column-met (all-heard c) e ≡ true → In (own e) (met-log es c)
   unfolding met-log met-entries
   to-met e m q = in-map own (in-keep (column-met (all-heard c)) m q)
+
+-- each entry in which 13 finds nothing is met in some combination
+pub met-somewhere : (p : Lines) → Good p → (e : Entry) → ill-formed p e ≡ false → (c : List Bool) × (length c ≡ length (p .conditions)) × (column-met (all-heard c) e ≡ true)
+unfolding column-met
+met-somewhere p g e f = met-by 32 (length (p .conditions)) (e .known) (e .values) (omega (arith, g .few-conditions)) (formed p e f .known-in)
 
 module _ (p : Lines) (es : List Entry) (stated : ℕ) (s : Lawful p es stated) (c : List Bool) (cl : length c ≡ length (p .conditions)) where
   abbrev M : Log

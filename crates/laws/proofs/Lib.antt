@@ -6,6 +6,8 @@
 --   Active          who runs: a process is active just where all, or for `any` at least one, of its edges carry
 --   Slots           how long slots and rounds can be; `first-beginning` is the first beginning of a node's slot at or
 -- after a tick; at most one slot begins at a tick
+--   Formed          what refusal 13 leaves of an entry, as a record
+--   Occurrences     frames of slots that begin at their ticks, joined tick by tick
 --   Rows            what is due of a row, who sends it, how long it lasts; what a log says of a row
 --   Rules           the rules that a log keeps (`Kept`), and a table whose met entries keep them in every combination
 -- (`Lawful`)
@@ -33,7 +35,8 @@
 -- Sound tables
 --   Columns         columns, bits and what is heard
 --   Combinations    all combinations, and tests over them
---   Lawful          of a lawful table each due row is met exactly once, and no other
+--   Lawful          of a lawful table each due row is met exactly once, and no other; every entry is met in some
+-- combination
 --   Checks, Sound   `sound-iff`: refusals 12 to 20 find nothing just where the table is lawful
 --   Counting        `too-many`: a table with more entries than combinations times rows has a row that is met twice
 --
@@ -49,9 +52,18 @@
 --   Words           entries and frames as words and back, and the listing of a result's words
 --   Frames          every frame is used by an item of its node (`frame-used`), and every item has its frame
 -- (`item-framed`)
+--   Passed          what the slots of a node pass over in all combinations
+--
+-- Printed tables
+--   Listable        an entry that 13 lets pass can be listed
+--   Framed          of a lawful table the frames that its entries give are exactly these: ascending ticks, each used by
+-- an item, and every item framed
+--   Accepted        a listing in which no sentence applies has a sound table, its frames and the plan's count
 pub mod Good
 pub mod Active
 pub mod Slots
+pub mod Formed
+pub mod Occurrences
 pub mod Rows
 pub mod Rules
 pub mod Steps
@@ -84,3 +96,7 @@ pub mod Entries
 pub mod Words
 pub mod OwnTable
 pub mod Frames
+pub mod Passed
+pub mod Listable
+pub mod Framed
+pub mod Accepted

@@ -17,14 +17,14 @@ use Rattle.model.specs.Plan.{Lines, When, always, on, edge, local}
 use Rattle.model.specs.Activity.{Heard, heard, unheard, is, meets, all-heard, active, carries}
 use Rattle.model.specs.Bus.{rows, edge-row}
 use Rattle.model.specs.Log.{Placed, Log, of-row, placed}
-use Rattle.model.specs.Refusals.{Refusal, nothing, refused, sentence, or-else, plan-refusal}
+use Rattle.model.specs.Refusals.{Refusal, nothing, sentence, or-else, plan-refusal}
 use Rattle.model.specs.Table.{Entry, entries-of, known-bits, bits-within, column-met}
 use Rattle.model.specs.Checking.{ill-formed, own, met-log, due, not-once, uses-unknown, too-early, off-slot, overlap, share-byte, greatest-delay, table-refusal, check, Sound}
 use Rattle.laws.proofs.Active.{heard-all}
 use Rattle.laws.proofs.Checks.{none-14, none-15, none-16, none-17, none-18, none-19}
 use Rattle.laws.proofs.Columns.{Met, Named, other-value, known-part}
 use Rattle.laws.proofs.Combinations.{in-no}
-use Rattle.laws.proofs.Good.{Good, good, pass}
+use Rattle.laws.proofs.Good.{Good, good, pass, or-nothing}
 use Rattle.laws.proofs.Lawful.{once-different, formed-row, met-of, to-met, row-count}
 use Rattle.laws.proofs.Rows.{edge-due, in-placed, known-by}
 use Rattle.laws.proofs.Rules.{Lawful}
@@ -175,11 +175,6 @@ module _ (p : Lines) (words : List ℕ) (stated : ℕ) where
       (pass-back 18 _ _ (in-no p (overlap p es) .1 (λ c cl. none-18 p es c .1 (λ x y d m n q. s .keeps c cl .no-overlap x y m n q d)))
       (pass-back 19 _ _ (in-no p (share-byte p es) .1 (λ c cl. none-19 p es c .1 (s .keeps c cl .in-frame, λ x y d m n q r. s .keeps c cl .no-share x y m n q r d)))
       (pass-back 20 _ _ (no (eq-eqb stated (greatest-delay p es) (s .worst))) refl))))))))
-
-or-nothing : (a b : Refusal) → or-else a b ≡ nothing → (a ≡ nothing) × (b ≡ nothing)
-unfolding or-else
-or-nothing nothing b h = (refl, h)
-or-nothing (refused n) b h = absurd (let z : _≡_ {A = ℕ} 0 1 = cc in omega arith)
 
 pub sound-iff : (p : Lines) (words : List ℕ) (stated : ℕ) → Sound p words stated ↔ ((plan-refusal p ≡ nothing) × (length words % 5 ≡ 0) × Lawful p (entries-of words) stated)
 unfolding check or-else

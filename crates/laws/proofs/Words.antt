@@ -1,8 +1,8 @@
 -- Entries and frames as words, and back; and the listing of a result is the listing of its words.
 -- Assumes nothing.
 use mathlib.Core.Path.{_≡_, refl, ap}
-use mathlib.Core.List.{List, [], _∷_}
-use Prim.Native.Nat.{_+_, _*_}
+use mathlib.Core.List.{List, [], _∷_, _++_}
+use Prim.Native.Nat.{ℕ, _+_, _*_, _%_}
 use native.Mathlib.Omega.{arith}
 use lib.ListN.{length}
 use Rattle.lists.specs.Lists.{sum}
@@ -17,6 +17,31 @@ entries-back (e ∷ es) = ap (λ (rest : List Entry). e ∷ rest) (entries-back 
 pub frames-back : (fs : List Frame) → frames-of (frame-words fs) ≡ fs
 frames-back [] = refl
 frames-back (f ∷ fs) = ap (λ (rest : List Frame). f ∷ rest) (frames-back fs)
+
+-- words of whole entries and back
+pub words-back : (ws : List ℕ) → length ws % 5 ≡ 0 → entry-words (entries-of ws) ≡ ws
+words-back [] h = refl
+words-back (a ∷ []) h = absurd (omega arith)
+words-back (a ∷ b ∷ []) h = absurd (omega arith)
+words-back (a ∷ b ∷ c ∷ []) h = absurd (omega arith)
+words-back (a ∷ b ∷ c ∷ d ∷ []) h = absurd (omega arith)
+words-back (a ∷ b ∷ c ∷ d ∷ e ∷ ws) h = ap (λ (l : List ℕ). a ∷ b ∷ c ∷ d ∷ e ∷ l) (words-back ws (omega arith))
+
+-- words of whole frames and back
+pub frame-words-back : (ws : List ℕ) → length ws % 3 ≡ 0 → frame-words (frames-of ws) ≡ ws
+frame-words-back [] h = refl
+frame-words-back (a ∷ []) h = absurd (omega arith)
+frame-words-back (a ∷ b ∷ []) h = absurd (omega arith)
+frame-words-back (a ∷ b ∷ c ∷ ws) h = ap (λ (l : List ℕ). a ∷ b ∷ c ∷ l) (frame-words-back ws (omega arith))
+
+-- the words of one list of entries or frames and then another
+pub entry-words-joined : (es fs : List Entry) → entry-words (es ++ fs) ≡ entry-words es ++ entry-words fs
+entry-words-joined [] fs = refl
+entry-words-joined (e ∷ es) fs = λ i. e .row ∷ e .known ∷ e .values ∷ e .tick ∷ e .place ∷ entry-words-joined es fs i
+
+pub frame-words-joined : (es fs : List Frame) → frame-words (es ++ fs) ≡ frame-words es ++ frame-words fs
+frame-words-joined [] fs = refl
+frame-words-joined (f ∷ es) fs = λ i. f .tick ∷ f .node ∷ f .used ∷ frame-words-joined es fs i
 
 -- five words to an entry, three to a frame
 pub entry-words-count : (es : List Entry) → length (entry-words es) ≡ 5 * length es

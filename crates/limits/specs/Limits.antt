@@ -123,18 +123,44 @@ NOTES = COMBINATIONS * COMBINATIONNOTES
 abbrev pub TEXT : ℕ
 TEXT = 16384
 
--- "lending 3,000 entries": the words that the planning program lends for the table.
-abbrev pub PRINTEDWORDS : ℕ
-PRINTEDWORDS = 5 * 3000
+-- "lending 3,000 entries": the most entries of a printed table.
+abbrev pub PRINTEDENTRIES : ℕ
+PRINTEDENTRIES = 3000
 
--- "and 2,000 frames": the words that it lends for the frame list.
+-- "and 2,000 frames": the most frames of a printed frame list.
+abbrev pub PRINTEDFRAMES : ℕ
+PRINTEDFRAMES = 2000
+
+-- The words that the planning program lends for the table.
+abbrev pub PRINTEDWORDS : ℕ
+PRINTEDWORDS = 5 * PRINTEDENTRIES
+
+-- The words that it lends for the frame list.
 abbrev pub PRINTEDFRAMEWORDS : ℕ
-PRINTEDFRAMEWORDS = 3 * 2000
+PRINTEDFRAMEWORDS = 3 * PRINTEDFRAMES
 
 -- The words that hold the frame list of as many entries: an entry is in one frame at most
 abbrev pub ENTRYFRAMEWORDS : ℕ
-ENTRYFRAMEWORDS = 3 * 3000
+ENTRYFRAMEWORDS = 3 * PRINTEDENTRIES
 
 -- The bytes that it lends for a listing: no listing of as many entries has more
 abbrev pub LISTING : ℕ
 LISTING = 426100
+
+-- "over 3,000 entries or 2,000 frames" (document 02, point 2): the most bytes of a listing that is of its form: a delay
+-- line, a passed line, and the longest lines of an entry and of a frame, with nine digits wherever they may stand
+abbrev pub LISTED : ℕ
+LISTED = 18 + 19 + 111 * PRINTEDENTRIES + 53 * PRINTEDFRAMES
+
+-- "A program reads a plan up to the first empty line, then a listing": the bytes that it lends for both, the line feed
+-- of the empty line, and one byte more, so that a longer input is refused as its beginning is.
+abbrev pub INPUT : ℕ
+INPUT = TEXT + 1 + LISTED + 1
+
+-- The bytes that it lends for its answer: the line of a refusal of ten digits is the longest that a function can write.
+abbrev pub VERDICT : ℕ
+VERDICT = 21
+
+-- "21 [..] 22" (document 02, point 2): the last refusal. Document 01 has 1 to 20.
+abbrev pub LASTREFUSAL : ℕ
+LASTREFUSAL = 22

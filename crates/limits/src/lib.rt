@@ -56,11 +56,23 @@ pub const COMBINATIONNOTES: usize = NOTED + NODES;
 pub const NOTES: usize = COMBINATIONS * COMBINATIONNOTES;
 // "The text exceeds 16,384 bytes": the most bytes of a plan text.
 pub const TEXT: usize = 16384;
-// "lending 3,000 entries": the words that the planning program lends for the table.
-pub const PRINTEDWORDS: usize = 5 * 3000;
-// "and 2,000 frames": the words that it lends for the frame list.
-pub const PRINTEDFRAMEWORDS: usize = 3 * 2000;
+// "lending 3,000 entries": the most entries of a printed table.
+pub const PRINTEDENTRIES: usize = 3000;
+// "and 2,000 frames": the most frames of a printed frame list.
+pub const PRINTEDFRAMES: usize = 2000;
+// The words that the planning program lends for the table.
+pub const PRINTEDWORDS: usize = 5 * PRINTEDENTRIES;
+// The words that it lends for the frame list.
+pub const PRINTEDFRAMEWORDS: usize = 3 * PRINTEDFRAMES;
 // The words that hold the frame list of as many entries: an entry is in one frame at most.
-pub const ENTRYFRAMEWORDS: usize = 3 * 3000;
+pub const ENTRYFRAMEWORDS: usize = 3 * PRINTEDENTRIES;
 // The bytes that it lends for a listing: no listing of as many entries has more.
 pub const LISTING: usize = 426100;
+// "over 3,000 entries or 2,000 frames" (document 02, point 2): the most bytes of a listing that is of its form: a delay
+// line, a passed line, and the longest lines of an entry and of a frame, with nine digits wherever they may stand.
+pub const LISTED: usize = 18 + 19 + 111 * PRINTEDENTRIES + 53 * PRINTEDFRAMES;
+// "A program reads a plan up to the first empty line, then a listing": the bytes that it lends for both, the line feed
+// of the empty line, and one byte more, so that a longer input is refused as its beginning is.
+pub const INPUT: usize = TEXT + 1 + LISTED + 1;
+// The bytes that it lends for its answer: the line of a refusal of ten digits is the longest that a function can write.
+pub const VERDICT: usize = 21;

@@ -4,5 +4,6 @@ mod frames;
 mod writer;
 
 pub use writer::Listed;
+pub use writer::put_refusal;
 pub use writer::write_listing;
 pub use writer::write_refusal;

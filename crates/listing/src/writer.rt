@@ -100,8 +100,8 @@ fn put_listing<'a>(
     ))
 }
 
-// Stores the line of a refusal that the lent bytes have room for.
-fn put_refusal(out: &mut [u8], number: u32) -> usize
+// Stores the line of a refusal that the lent bytes have room for: how many bytes were stored.
+pub fn put_refusal(out: &mut [u8], number: u32) -> usize
     requires { ⌜ Fits (now out) 0 (refused-line number) ⌝ }
     ensures { λ r. ⌜ Put (now (out .entry)) (now (out .exit)) 0 r (refused-line number) ⌝ }
 {

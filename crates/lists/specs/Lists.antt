@@ -58,6 +58,13 @@ abbrev pub greatest : List ℕ → ℕ
 greatest [] = 0
 greatest (x ∷ xs) = max x (greatest xs)
 
+-- two lists hold the same numbers in the same order
+unfoldable pub same-numbers : List ℕ → List ℕ → Bool
+same-numbers [] [] = true
+same-numbers [] (y ∷ ys) = false
+same-numbers (x ∷ xs) [] = false
+same-numbers (x ∷ xs) (y ∷ ys) = eqb x y && same-numbers xs ys
+
 -- a number stands twice
 unfoldable pub repeated : List ℕ → Bool
 repeated [] = false

@@ -1,21 +1,23 @@
--- The worked cases of documents 01 and 02 and some of our own, gathered in tables with one theorem: what the definitions
--- compute is what is stated. Must-fail edits of a definition are refused here.
+-- The worked cases of documents 01 and 02 and some of our own, gathered in tables with one theorem: what the
+-- definitions compute is what is stated. Must-fail edits of a definition are refused here.
 -- Assumes nothing.
 use Prim.Native.Nat.{ℕ, _+_, _*_}
 use mathlib.Core.Path.{_≡_, refl}
 use mathlib.Core.Bool.{Bool, true, false}
 use mathlib.Core.List.{List, [], _∷_, _++_, map}
-use lib.ListN.{take, set, replicate}
+use native.Mathlib.Omega.{arith}
+use lib.ListN.{take, drop, set, replicate}
 use Rattle.lists.specs.Lists.{sum}
 use Rattle.model.specs.Plan.{Lines, PlanLine, Pick, by-urgency, by-number, waits-all, waits-any, Slot, Process, Edge, When, always, on, with-head}
 use Rattle.model.specs.Log.{delay, full-ticks}
 use Rattle.model.specs.Planning.{planned}
 use Rattle.model.specs.Refusals.{Refusal, nothing, refused}
-use Rattle.model.specs.Table.{result, plan-answer, Answer, turned-down, made, table-after, frames-after}
+use Rattle.model.specs.Table.{Result, entries-of, frames-of, result, plan-answer, Answer, turned-down, made, table-after, frames-after}
 use Rattle.model.specs.Checking.{check}
 use Rattle.model.specs.Lookup.{row-part, lookup}
 use Rattle.model.specs.Text.{text, print, Written, wrote, not-written, write-plan}
 use Rattle.model.specs.Listing.{printed, list-plan}
+use Rattle.model.specs.ListingText.{States, Listed, listed, not-listed, listed-words, listed-frames, stated-refusal, plan-part, listing-part, check-prints}
 use Rattle.model.specs.Firmware.{words-of, found-number}
 use Rattle.model.specs.Run.{run-before}
 use Rattle.model.specs.Demand.{starts-of}
@@ -34,6 +36,11 @@ pub data Question : Type 0 where
   writes : Lines → ℕ → Question
   lists-in : Lines → ℕ → Question
   checks : Lines → List ℕ → ℕ → Question
+  states : Lines → Result → Question
+  lends : Listed → List ℕ → List ℕ → Question
+  plan-of : List ℕ → Question
+  listing-of : List ℕ → Question
+  says : Refusal → Question
   row : List ℕ → ℕ → Question
   finds : Lines → List ℕ → ℕ → ℕ → ℕ → ℕ → ℕ → Question
   starts : Lines → List ℕ → List Bool → List ℕ → ℕ → Question
@@ -71,6 +78,11 @@ outcome (leaves p ws fs) =
 outcome (writes p n) = number (written-number (write-plan p n))
 outcome (lists-in p n) = number (written-number (list-plan p n))
 outcome (checks p ws d) = number (refusal-number (check p ws d))
+outcome (states p r) = number (refusal-number (stated-refusal p r))
+outcome (lends l ws fs) = list (listed-words l ws ++ listed-frames l fs)
+outcome (plan-of input) = list (plan-part input)
+outcome (listing-of input) = list (listing-part input)
+outcome (says r) = list (check-prints r)
 outcome (row ws r) = list (row-part ws r)
 outcome (finds p bytes n t h v from) = number (found-number (lookup p (words-of bytes) n t h v from))
 outcome (starts p ws c times i) = list (starts-of (run-before p ws (lookup p ws) c times 40) i)
@@ -280,8 +292,8 @@ answers =
 -- `starred`), "and for other heads tables are compared with the planning rules over the longer slots."
 abbrev pub heads : List Case
 heads =
-    -- S and the packing case with a head of one byte: slots are longer, and a head takes no place in a frame; two slots of
-    -- one byte with a head of 16: a message ready at 1 goes in the frame of 34, and arrives at 51
+    -- S and the packing case with a head of one byte: slots are longer, and a head takes no place in a frame; two slots
+    -- of one byte with a head of 16: a message ready at 1 goes in the frame of 34, and arrives at 51
     case (lists (with-head S 1)) (list (text "(delay 50)\n(passed 0)\n(start 0 (when) (at 0))\n(start 1 (when (true 0)) (at 30))\n(start 2 (when (false 0)) (at 18))\n(start 3 (when (false 0)) (at 23))\n(start 3 (when (true 0)) (at 48))\n(send 0 (when (true 0)) (at 24) (place 0))\n(send 2 (when (true 0)) (at 42) (place 0))\n(tell 0 (when) (at 12) (place 0))\n(frame 12 (node 0) (bytes 1))\n(frame 24 (node 0) (bytes 1))\n(frame 42 (node 1) (bytes 2))\n"))
     ∷ case (lists (with-head packing 1)) (list (text "(delay 21)\n(passed 1)\n(start 0 (when) (at 0))\n(start 1 (when) (at 12))\n(start 2 (when) (at 19))\n(start 3 (when) (at 14))\n(send 0 (when) (at 7) (place 0))\n(send 1 (when) (at 14) (place 0))\n(send 2 (when) (at 7) (place 3))\n(frame 7 (node 0) (bytes 4))\n(frame 14 (node 0) (bytes 2))\n"))
     ∷ case (lists (with-head (plain by-urgency 1 1 (all-of 0 1 ∷ all-of 1 1 ∷ []) (arc 0 1 1 always ∷ [])) 16))
@@ -290,11 +302,65 @@ heads =
     ∷ case (writes (with-head S 16) 0) (number 10)
     ∷ case (writes (with-head S 17) 0) (number 3)
     ∷ case (writes (with-head (S-with 4 3) 16) 0) (number 9)
-    -- the table of the packing case with a head: at place 0, and passing the slot's data by as much as the head; without the
-    -- head its ticks are no beginnings of the slot
+    -- the table of the packing case with a head: at place 0, and passing the slot's data by as much as the head;
+    -- without the head its ticks are no beginnings of the slot
     ∷ case (checks (with-head packing 1) (headed-packing-words 0) 21) (number 0)
     ∷ case (checks (with-head packing 1) (headed-packing-words 3) 21) (number 19)
     ∷ case (checks packing (headed-packing-words 0) 21) (number 17)
+    ∷ []
+
+-- Document 02, point 2: "Check a printed table." What a listing states: a delay, a pass-over count, and the words of
+-- its entries and of its frames.
+abbrev pub stating : ℕ → ℕ → List ℕ → List ℕ → Result
+stating delay count words frames =
+    record { delay = delay; passed = count ∷ []; entries = entries-of words; frames = frames-of frames }
+
+abbrev pub frames-S : List ℕ
+frames-S = 8 ∷ 0 ∷ 1 ∷ 16 ∷ 0 ∷ 1 ∷ 28 ∷ 1 ∷ 2 ∷ []
+
+-- S's table with the two entries of row 3 exchanged, and moved on by a round
+abbrev pub exchanged-S : List ℕ
+exchanged-S = take 15 words-S ++ 3 ∷ 1 ∷ 1 ∷ 32 ∷ 0 ∷ 3 ∷ 1 ∷ 0 ∷ 17 ∷ 0 ∷ drop 25 words-S
+
+abbrev pub later-S : List ℕ
+later-S =
+    0 ∷ 0 ∷ 0 ∷ 8 ∷ 0
+    ∷ 1 ∷ 1 ∷ 1 ∷ 28 ∷ 0
+    ∷ 2 ∷ 1 ∷ 0 ∷ 20 ∷ 0
+    ∷ 3 ∷ 1 ∷ 0 ∷ 25 ∷ 0
+    ∷ 3 ∷ 1 ∷ 1 ∷ 40 ∷ 0
+    ∷ 4 ∷ 1 ∷ 1 ∷ 24 ∷ 0
+    ∷ 6 ∷ 1 ∷ 1 ∷ 36 ∷ 0
+    ∷ 8 ∷ 0 ∷ 0 ∷ 16 ∷ 0 ∷ []
+
+abbrev pub printed-tables : List Case
+printed-tables =
+    -- the planner's own; within a row in another order; moved on by a round: the passed line is the plan's
+    case (states S (stating 34 0 words-S frames-S)) (number 0)
+    ∷ case (states S (stating 34 0 exchanged-S frames-S)) (number 0)
+    ∷ case (states S (stating 42 0 later-S (16 ∷ 0 ∷ 1 ∷ 24 ∷ 0 ∷ 1 ∷ 36 ∷ 1 ∷ 2 ∷ []))) (number 0)
+    -- no entry; frames in another order, one twice, one missing, one too wide; another count
+    ∷ case (states S (stating 0 0 [] [])) (number 14)
+    ∷ case (states S (stating 34 0 words-S (16 ∷ 0 ∷ 1 ∷ 8 ∷ 0 ∷ 1 ∷ 28 ∷ 1 ∷ 2 ∷ []))) (number 22)
+    ∷ case (states S (stating 34 0 words-S (8 ∷ 0 ∷ 1 ∷ frames-S))) (number 22)
+    ∷ case (states S (stating 34 0 words-S (take 6 frames-S))) (number 22)
+    ∷ case (states S (stating 34 0 words-S (8 ∷ 0 ∷ 2 ∷ drop 3 frames-S))) (number 22)
+    ∷ case (states S (stating 34 1 words-S frames-S)) (number 22)
+    -- 20 before 22, 13 before both
+    ∷ case (states S (stating 33 1 words-S frames-S)) (number 20)
+    ∷ case (states S (stating 33 1 (edited 7 4 64) [])) (number 13)
+    -- the words lent to the reader of listings: 21 leaves them, and what is read stands in front
+    ∷ case (lends (not-listed 21) (9 ∷ 9 ∷ []) (8 ∷ [])) (list (9 ∷ 9 ∷ 8 ∷ []))
+    ∷ case (lends (listed (stating 7 0 (0 ∷ 0 ∷ 0 ∷ 0 ∷ 0 ∷ []) (4 ∷ 0 ∷ 1 ∷ []))) (replicate 6 9) (replicate 4 8)) (list (0 ∷ 0 ∷ 0 ∷ 0 ∷ 0 ∷ 9 ∷ 4 ∷ 0 ∷ 1 ∷ 8 ∷ []))
+    -- the input up to its first empty line, and behind it; without an empty line, with one at the front, with several
+    ∷ case (plan-of (text "(a)\n(b)\n\n(c)\n\n")) (list (text "(a)\n(b)\n"))
+    ∷ case (listing-of (text "(a)\n(b)\n\n(c)\n\n")) (list (text "(c)\n\n"))
+    ∷ case (plan-of (text "(a)\n(b)\n")) (list (text "(a)\n(b)\n"))
+    ∷ case (listing-of (text "(a)\n(b)\n")) (list [])
+    ∷ case (plan-of (text "\n(a)\n")) (list [])
+    ∷ case (listing-of (text "\n(a)\n")) (list (text "(a)\n"))
+    ∷ case (says nothing) (list (text "(accepted)\n"))
+    ∷ case (says (refused 22)) (list (text "(refused 22)\n"))
     ∷ []
 
 abbrev pub Hold : List Case → Type 0
@@ -315,3 +381,21 @@ answers-hold = refl
 pub heads-hold : Hold heads
 unfolding computing
 heads-hold = refl
+
+pub printed-tables-hold : Hold printed-tables
+unfolding computing
+printed-tables-hold = refl
+
+-- S's listing states S's table.
+pub S-states : States S (text "(delay 34)\n(passed 0)\n(start 0 (when) (at 0))\n(start 1 (when (true 0)) (at 20))\n(start 2 (when (false 0)) (at 12))\n(start 3 (when (false 0)) (at 17))\n(start 3 (when (true 0)) (at 32))\n(send 0 (when (true 0)) (at 16) (place 0))\n(send 2 (when (true 0)) (at 28) (place 0))\n(tell 0 (when) (at 8) (place 0))\n(frame 8 (node 0) (bytes 1))\n(frame 16 (node 0) (bytes 1))\n(frame 28 (node 1) (bytes 2))\n") (stating 34 0 words-S frames-S)
+unfolding computing
+S-states =
+    record {
+      one-count = refl;
+      all-short = refl;
+      all-listable = refl;
+      in-order = refl;
+      prints = refl;
+      few-entries = omega arith;
+      few-frames = omega arith;
+    }

@@ -10,6 +10,7 @@ pub mod Checking
 pub mod Lookup
 pub mod Text
 pub mod Listing
+pub mod ListingText
 pub mod Firmware
 pub mod Run
 pub mod Demand

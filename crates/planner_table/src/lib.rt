@@ -22,6 +22,7 @@ ghost use Rattle.limits.specs.Limits.{NODES, COMBINATIONS, ROWENDS, ENTRIES};
 ghost use Rattle.lists.specs.Lists.{below, sum};
 ghost use Rattle.model.specs.Plan.{Lines};
 ghost use Rattle.model.specs.Refusals.{nothing, plan-refusal};
+ghost use Rattle.model.specs.Table.{result};
 ghost use Rattle.plan.specs.Memory.{lines};
 ghost use Rattle.plan_index.specs.Indexed.{Indexed};
 ghost use Rattle.table_entries.specs.Logs.{Logs};
@@ -159,4 +160,18 @@ pub fn plan_accepted(p: Plan, table: &mut [u32], frames: &mut [u32]) -> Planned
     let mut since = no_clocks();
     let t = plan_combinations(b, &mut comes, &mut place, &mut since);
     write_all(b, t, &comes, &place, &since, table, frames)
+}
+
+// The pass-over count of a plan in which refusals 2 to 9 find nothing, whatever room its table would need.
+pub fn count_pass_overs(p: Plan) -> u32
+    requires { ⌜ plan-refusal (lines p) ≡ nothing ⌝ }
+    ensures { λ r. ⌜ r ≡ sum (result (lines p) .passed) ⌝ }
+{
+    let b = of_plan(p);
+    let mut comes = [1u32; ENTRIES];
+    let mut place = [1u32; ENTRIES];
+    let mut since = no_clocks();
+    let t = plan_combinations(b, &mut comes, &mut place, &mut since);
+    let counts = t.passed;
+    pass_overs(counts, b.slots)
 }

@@ -6,45 +6,8 @@
 use limits::LISTING;
 use limits::TEXT;
 use program::print_all;
-ghost use lib.ListN.{length};
-ghost use Rattle.riscadru_plan.specs.Lent.{Lies-within};
-
-// What was read from standard input: so many bytes, or that a read failed.
-enum Input {
-    Bytes(usize),
-    Failed,
-}
-
-// Reads once: no bytes at the end of the input.
-fn read_once(out: &mut [u8]) -> Input
-    ensures { λ r. ⌜ Lies-within r (length (now (out .exit))) ⌝ }
-{
-    let got = libc::read(0, out);
-    if got < 0 {
-        return Input::Failed;
-    }
-    Input::Bytes(io::count(got, out))
-}
-
-// Reads until the input ends, or the lent bytes are full.
-fn read_all(out: &mut [u8]) -> Input
-    ensures { λ r. ⌜ Lies-within r (length (now (out .exit))) ⌝ }
-{
-    let mut done: usize = 0;
-    while done < out.len() {
-        let input = read_once(&mut out[done..]);
-        match input {
-            Input::Failed => return Input::Failed,
-            Input::Bytes(n) => {
-                if n == 0 {
-                    return Input::Bytes(done);
-                }
-                done += n;
-            }
-        }
-    }
-    Input::Bytes(done)
-}
+use standard_input::Input;
+use standard_input::read_all;
 
 // Prints what the text is answered with.
 fn print(text: &[u8]) {

@@ -33,6 +33,7 @@ use Rattle.laws.proofs.OwnTable.{item-bytes, slot-bytes}
 use Rattle.laws.proofs.Progress.{over-by-bound}
 use Rattle.laws.proofs.Rules.{Kept}
 use Rattle.laws.proofs.Safety.{planning-keeps}
+use Rattle.laws.proofs.Words.{entry-words-joined}
 use Rattle.bitset.proofs.Known.{values-built}
 use Rattle.bitset.proofs.Numbered.{combinations-count, combination-number}
 use Rattle.log_queries.specs.Reading.{known-by}
@@ -67,10 +68,6 @@ each-map f g [] = refl
 each-map f g (x ∷ xs) = ap (λ (zs : List _). f (g x) ++ zs) (each-map f g xs)
 
 -- the words of entries
-words-append : (es fs : List Entry) → entry-words (es ++ fs) ≡ entry-words es ++ entry-words fs
-words-append [] fs = refl
-words-append (e ∷ es) fs = λ i. e .row ∷ e .known ∷ e .values ∷ e .tick ∷ e .place ∷ words-append es fs i
-
 words-row : (r : ℕ) (xs : List ℕ) → entry-words (map (entry-from r) xs) ≡ each (five r) xs
 words-row r [] = refl
 words-row r (x ∷ xs) = ap (λ (ws : List ℕ). five r x ++ ws) (words-row r xs)
@@ -78,7 +75,7 @@ words-row r (x ∷ xs) = ap (λ (ws : List ℕ). five r x ++ ws) (words-row r xs
 words-each : (f : ℕ → List ℕ) (rs : List ℕ) → entry-words (each (λ r. map (entry-from r) (f r)) rs) ≡ each (λ r. each (five r) (f r)) rs
 words-each f [] = refl
 words-each f (r ∷ rs) =
-    words-append (map (entry-from r) (f r)) (each (λ r. map (entry-from r) (f r)) rs) ∙ (λ i. words-row r (f r) i ++ words-each f rs i)
+    entry-words-joined (map (entry-from r) (f r)) (each (λ r. map (entry-from r) (f r)) rs) ∙ (λ i. words-row r (f r) i ++ words-each f rs i)
 
 words-five : (es : List Entry) → length (entry-words es) ≡ 5 * length es
 words-five [] = refl

@@ -7,14 +7,14 @@ use mathlib.Core.List.{List, [], _∷_, _++_, append-assoc}
 use Prim.Native.Nat.{ℕ, zero, suc, _+_, _-_, _*_, _/_, _%_, _^_, _≤_, _<_}
 use native.Mathlib.Nat.{pow-suc}
 use native.Mathlib.Omega.{arith}
-use borrow.Author.Tests.{ltb-true, ltb-false, leb-true, eqb-true, lt-ltb, le-ltb, le-leb, ne-eqb}
+use borrow.Author.Tests.{ltb-true, ltb-false, leb-true, eqb-true, lt-ltb, le-ltb, le-leb, eq-eqb, ne-eqb}
 use lib.Dec.{eqb, leb, ltb}
 use lib.ListN.{length, length-append}
 use Rattle.lists.specs.Lists.{if_then_else_}
 use Rattle.lists.proofs.Tests.{two, both, join, strong}
-use Rattle.model.specs.Text.{digits, decimal, text}
+use Rattle.model.specs.Text.{digits, decimal}
 use Rattle.text_grammar.proofs.Parsed.{not-got, got-same}
-use Rattle.text_grammar.specs.Parse.{none, got, digit, goes-on, digits-at, number-at}
+use Rattle.text_grammar.specs.Parse.{none, got, digit, goes-on, digits-to, number-to}
 
 -- the digits of a number below ten, and of another; the bound does not matter
 digits-small : (f n : ℕ) → n < 10 → digits f n ≡ (48 + n) ∷ []
@@ -90,71 +90,76 @@ went-on n b h =
     let u = leb-true n 99999999 (m .1) in
     (d .0, d .1, ltb-true 0 n (m .0), omega arith)
 
--- every printed number is read
-digits-step : (n d : ℕ) (s : List ℕ) → 0 < n → n < 100000000 → d < 10 → digits-at n ((48 + d) ∷ s) ≡ digits-at (n * 10 + d) s
-unfolding digits-at
-digits-step n d s l m h =
-    let e : (48 + d) - 48 ≡ d = omega arith in
-    rw (ne-eqb (48 + d) 41 (λ z. omega arith), may-go-on n d l m h, e)
+-- a number and the byte behind it
+abbrev pub ended : ℕ → ℕ → List ℕ
+ended end n = decimal n ++ (end ∷ [])
 
-number-digits : (n : ℕ) → n < 1000000000 → (s : List ℕ) → number-at (decimal n ++ s) ≡ digits-at n s
-unfolding number-at
-number-digits = strong (λ n. n < 1000000000 → (s : List ℕ) → number-at (decimal n ++ s) ≡ digits-at n s) (λ n r b s. at n r b s (two (ltb n 10)))
-  where
-    at : (n : ℕ) → ((j : ℕ) → j < n → j < 1000000000 → (s : List ℕ) → number-at (decimal j ++ s) ≡ digits-at j s) → n < 1000000000
-        → (s : List ℕ) → (ltb n 10 ≡ true) ⊎ (ltb n 10 ≡ false) → number-at (decimal n ++ s) ≡ digits-at n s
-    at n r b s (inl e) =
-        let l = ltb-true n 10 e in
-        let z : (48 + n) - 48 ≡ n = omega arith in
-        rw (decimal-small n l, is-digit n l, z)
-    at n r b s (inr e) =
-        let l = ltb-false n 10 e in
-        let z : n / 10 * 10 + n % 10 ≡ n = omega arith in
-        rw (
-          decimal-large n l,
-          append-assoc (decimal (n / 10)) ((48 + n % 10) ∷ []) s,
-          r (n / 10) (omega arith) (omega arith) ((48 + n % 10) ∷ s),
-          digits-step (n / 10) (n % 10) s (omega arith) (omega arith) (omega arith),
-          z,
-        )
-
--- a number and its bracket
 abbrev pub bracketed : ℕ → List ℕ
-bracketed n = decimal n ++ text ")"
+bracketed n = ended 41 n
 
-pub number-complete : (n : ℕ) (s : List ℕ) → n < 1000000000 → number-at (bracketed n ++ s) ≡ got n s
-unfolding digits-at
-number-complete n s l = rw (append-assoc (decimal n) (text ")") s) (number-digits n l (41 ∷ s))
+-- every printed number is read, if the byte behind it is no digit
+module _ (end : ℕ) (low : end < 48) where
+  digits-step : (n d : ℕ) (s : List ℕ) → 0 < n → n < 100000000 → d < 10 → digits-to end n ((48 + d) ∷ s) ≡ digits-to end (n * 10 + d) s
+  unfolding digits-to
+  digits-step n d s l m h =
+      let e : (48 + d) - 48 ≡ d = omega arith in
+      rw (ne-eqb (48 + d) end (λ z. omega arith), may-go-on n d l m h, e)
+
+  number-digits : (n : ℕ) → n < 1000000000 → (s : List ℕ) → number-to end (decimal n ++ s) ≡ digits-to end n s
+  unfolding number-to
+  number-digits = strong (λ n. n < 1000000000 → (s : List ℕ) → number-to end (decimal n ++ s) ≡ digits-to end n s) (λ n r b s. at n r b s (two (ltb n 10)))
+    where
+      at : (n : ℕ) → ((j : ℕ) → j < n → j < 1000000000 → (s : List ℕ) → number-to end (decimal j ++ s) ≡ digits-to end j s) → n < 1000000000
+          → (s : List ℕ) → (ltb n 10 ≡ true) ⊎ (ltb n 10 ≡ false) → number-to end (decimal n ++ s) ≡ digits-to end n s
+      at n r b s (inl e) =
+          let l = ltb-true n 10 e in
+          let z : (48 + n) - 48 ≡ n = omega arith in
+          rw (decimal-small n l, is-digit n l, z)
+      at n r b s (inr e) =
+          let l = ltb-false n 10 e in
+          let z : n / 10 * 10 + n % 10 ≡ n = omega arith in
+          rw (
+            decimal-large n l,
+            append-assoc (decimal (n / 10)) ((48 + n % 10) ∷ []) s,
+            r (n / 10) (omega arith) (omega arith) ((48 + n % 10) ∷ s),
+            digits-step (n / 10) (n % 10) s (omega arith) (omega arith) (omega arith),
+            z,
+          )
+
+  pub number-complete : (n : ℕ) (s : List ℕ) → n < 1000000000 → number-to end (ended end n ++ s) ≡ got n s
+  unfolding digits-to
+  number-complete n s l = rw (append-assoc (decimal n) (end ∷ []) s) (number-digits n l (end ∷ s) ∙ rw (eq-eqb end end refl))
 
 -- what is read is a printed number
-digits-sound : (s : List ℕ) (n m : ℕ) (r : List ℕ) → n < 1000000000 → digits-at n s ≡ got m r → (decimal n ++ s ≡ decimal m ++ (41 ∷ r)) × (m < 1000000000)
-unfolding digits-at
-digits-sound [] n m r l h = not-got h
-digits-sound (b ∷ s) n m r l h = at (eqb b 41) (goes-on n b) refl refl h (digits-sound s (n * 10 + (b - 48)) m r)
-  where
-    at : (x y : Bool) → eqb b 41 ≡ x → goes-on n b ≡ y → (if x then got n s else if y then digits-at (n * 10 + (b - 48)) s else none) ≡ got m r
-        → (n * 10 + (b - 48) < 1000000000 → digits-at (n * 10 + (b - 48)) s ≡ got m r → (decimal (n * 10 + (b - 48)) ++ s ≡ decimal m ++ (41 ∷ r)) × (m < 1000000000))
-        → (decimal n ++ (b ∷ s) ≡ decimal m ++ (41 ∷ r)) × (m < 1000000000)
-    at true y e g k ih =
-        let z = got-same k in
-        let c = eqb-true b 41 e in
-        (rw (z .0, z .1, c), omega arith)
-    at false true e g k ih =
-        let d = went-on n b g in
-        let q = ih (omega arith) k in
-        let c : decimal n ++ (b ∷ []) ≡ decimal (n * 10 + (b - 48)) = rw (d .0) at (decimal-more n (b - 48) (d .2) (d .1)) in
-        (sym (append-assoc (decimal n) (b ∷ []) s) ∙ ap (λ u. u ++ s) c ∙ q .0, q .1)
-    at false false e g k ih = not-got k
+module _ (end : ℕ) where
+  digits-sound : (s : List ℕ) (n m : ℕ) (r : List ℕ) → n < 1000000000 → digits-to end n s ≡ got m r → (decimal n ++ s ≡ decimal m ++ (end ∷ r)) × (m < 1000000000)
+  unfolding digits-to
+  digits-sound [] n m r l h = not-got h
+  digits-sound (b ∷ s) n m r l h = at (eqb b end) (goes-on n b) refl refl h (digits-sound s (n * 10 + (b - 48)) m r)
+    where
+      at : (x y : Bool) → eqb b end ≡ x → goes-on n b ≡ y → (if x then got n s else if y then digits-to end (n * 10 + (b - 48)) s else none) ≡ got m r
+          → (n * 10 + (b - 48) < 1000000000 → digits-to end (n * 10 + (b - 48)) s ≡ got m r → (decimal (n * 10 + (b - 48)) ++ s ≡ decimal m ++ (end ∷ r)) × (m < 1000000000))
+          → (decimal n ++ (b ∷ s) ≡ decimal m ++ (end ∷ r)) × (m < 1000000000)
+      at true y e g k ih =
+          let z = got-same k in
+          let c = eqb-true b end e in
+          (rw (z .0, z .1, c), omega arith)
+      at false true e g k ih =
+          let d = went-on n b g in
+          let q = ih (omega arith) k in
+          let c : decimal n ++ (b ∷ []) ≡ decimal (n * 10 + (b - 48)) = rw (d .0) at (decimal-more n (b - 48) (d .2) (d .1)) in
+          (sym (append-assoc (decimal n) (b ∷ []) s) ∙ ap (λ u. u ++ s) c ∙ q .0, q .1)
+      at false false e g k ih = not-got k
 
-pub number-sound : (s : List ℕ) (m : ℕ) (r : List ℕ) → number-at s ≡ got m r → (s ≡ bracketed m ++ r) × (m < 1000000000)
-unfolding number-at
-number-sound [] m r h = not-got h
-number-sound (b ∷ s) m r h = at (digit b) refl h
-  where
-    at : (x : Bool) → digit b ≡ x → (if x then digits-at (b - 48) s else none) ≡ got m r → (b ∷ s ≡ bracketed m ++ r) × (m < 1000000000)
-    at true e k =
-        let d = digit-is b e in
-        let q = digits-sound s (b - 48) m r (omega arith) k in
-        let c : decimal (b - 48) ≡ b ∷ [] = rw (d .0) at (decimal-small (b - 48) (d .1)) in
-        (ap (λ u. u ++ s) (sym c) ∙ q .0 ∙ sym (append-assoc (decimal m) (text ")") r), q .1)
-    at false e k = not-got k
+  pub number-sound : (s : List ℕ) (m : ℕ) (r : List ℕ) → number-to end s ≡ got m r → (s ≡ ended end m ++ r) × (m < 1000000000)
+  unfolding number-to
+  number-sound [] m r h = not-got h
+  number-sound (b ∷ s) m r h = at (digit b) refl h
+    where
+      at : (x : Bool) → digit b ≡ x → (if x then digits-to end (b - 48) s else none) ≡ got m r → (b ∷ s ≡ ended end m ++ r) × (m < 1000000000)
+      at true e k =
+          let d = digit-is b e in
+          let q = digits-sound s (b - 48) m r (omega arith) k in
+          let c : decimal (b - 48) ≡ b ∷ [] = rw (d .0) at (decimal-small (b - 48) (d .1)) in
+          (ap (λ u. u ++ s) (sym c) ∙ q .0 ∙ sym (append-assoc (decimal m) (end ∷ []) r), q .1)
+      at false e k = not-got k

@@ -11,7 +11,7 @@ use Rattle.model.specs.Text.{field, slot-line, process-line, condition-line, ed
 use Rattle.text_grammar.specs.Parse.{Parsed, none, got, word-at, field-at, closed-at, plan-at, slot-at, process-at, condition-at, edge-at, run-at, lines-at, got-lines, to-end, read-lines}
 use Rattle.text_grammar.proofs.Parsed.{not-lines, got-same, parts}
 use Rattle.text_grammar.proofs.Forms.{plan-reads, slot-reads, process-reads, condition-reads, edge-reads}
-use Rattle.text_grammar.proofs.Runs.{run-complete, run-sound}
+use Rattle.text_grammar.proofs.Runs.{every, run-complete, run-sound}
 
 -- Each run is over where the next lines begin, and at the end.
 pub edge-over : edge-at [] ≡ none
@@ -87,10 +87,10 @@ lines-complete p h =
     rw (
       in-turn p,
       plan-reads .complete (p .plan) r₁ tt (n .0),
-      run-complete slot-reads (slot-over [] [] []) (p .slots) r₂ (n .1) (slot-over (p .processes) (p .conditions) (p .edges)),
-      run-complete process-reads (process-over [] []) (p .processes) r₃ (n .2) (process-over (p .conditions) (p .edges)),
-      run-complete condition-reads (condition-over []) (p .conditions) r₄ (n .3) (condition-over (p .edges)),
-      run-complete edge-reads edge-over (p .edges) [] (n .4) edge-over,
+      run-complete slot-reads (slot-over [] [] []) (p .slots) r₂ (every (p .slots)) (n .1) (slot-over (p .processes) (p .conditions) (p .edges)),
+      run-complete process-reads (process-over [] []) (p .processes) r₃ (every (p .processes)) (n .2) (process-over (p .conditions) (p .edges)),
+      run-complete condition-reads (condition-over []) (p .conditions) r₄ (every (p .conditions)) (n .3) (condition-over (p .edges)),
+      run-complete edge-reads edge-over (p .edges) [] (every (p .edges)) (n .4) edge-over,
     )
 
 put-together : (s r₁ r₂ r₃ r₄ r₅ : List ℕ) (p q : Lines) → got q r₅ ≡ got p [] → s ≡ plan-line (q .plan) ++ r₁ → r₁ ≡ each slot-line (q .slots) ++ r₂
@@ -113,7 +113,7 @@ lines-sound s p h =
     let i = run-sound process-reads (process-over [] []) (b .rest) (c .value) (c .rest) (c .one) in
     let j = run-sound condition-reads (condition-over []) (c .rest) (d .value) (d .rest) (d .one) in
     let k = run-sound edge-reads edge-over (d .rest) (e .value) (e .rest) (e .one) in
-    put-together s (a .rest) (b .rest) (c .rest) (d .rest) (e .rest) p _ (e .two) (f .0) (g .0) (i .0) (j .0) (k .0) (f .2, g .1, i .1, j .1, k .1)
+    put-together s (a .rest) (b .rest) (c .rest) (d .rest) (e .rest) p _ (e .two) (f .0) (g .0) (i .0) (j .0) (k .0) (f .2, g .2, i .2, j .2, k .2)
 
 to-end-got : (q : Parsed Lines) (p : Lines) → to-end q ≡ got-lines p → q ≡ got p []
 unfolding to-end

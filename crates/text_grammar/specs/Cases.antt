@@ -7,7 +7,7 @@ use mathlib.Core.List.{List, [], _∷_, map}
 use Prim.Native.String.{String}
 use Rattle.model.specs.Plan.{Lines, by-number, waits-any}
 use Rattle.model.specs.Text.{text}
-use Rattle.text_grammar.specs.Parse.{Parsed, none, got, number-at, Whole, no-lines, got-lines, read-lines, word-at, digit, goes-on, digits-at, field-at, closed-at, value-at, pick-at, waits-at, on-at, when-at, plan-at, slot-at, process-at, condition-at, edge-at, run-in, run-at, lines-at, to-end}
+use Rattle.text_grammar.specs.Parse.{Parsed, none, got, number-at, Whole, no-lines, got-lines, read-lines, word-at, digit, goes-on, digits-to, number-to, field-at, closed-at, value-at, pick-at, waits-at, on-at, when-at, plan-at, slot-at, process-at, condition-at, edge-at, run-in, run-at, lines-at, to-end}
 
 pub record Number-case : Type 0 where
   pub bytes : String
@@ -56,9 +56,9 @@ texts =
     ∷ []
 
 pub numbers-hold : map (λ c. number-at (text (c .bytes))) numbers ≡ map (λ c. c .stated) numbers
-unfolding number-at digits-at digit goes-on
+unfolding number-to digits-to digit goes-on
 numbers-hold = refl
 
 pub texts-hold : map (λ c. read-lines (text (c .bytes))) texts ≡ map (λ c. c .stated) texts
-unfolding read-lines to-end lines-at run-at run-in edge-at condition-at process-at slot-at plan-at when-at on-at waits-at pick-at value-at closed-at field-at number-at digits-at goes-on digit word-at
+unfolding read-lines to-end lines-at run-at run-in edge-at condition-at process-at slot-at plan-at when-at on-at waits-at pick-at value-at closed-at field-at number-to digits-to goes-on digit word-at
 texts-hold = refl

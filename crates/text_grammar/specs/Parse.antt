@@ -33,21 +33,25 @@ word-at [] s = got tt s
 word-at (c ∷ w) [] = none
 word-at (c ∷ w) (b ∷ s) = if eqb b c then word-at w s else none
 
--- A number and the bracket behind it. The first byte is a digit; a further digit follows no zero and no number of nine
--- digits.
+-- A number and the byte behind it, a bracket or a blank. The first byte is a digit; a further digit follows no zero and
+-- no number of nine digits.
 unfoldable pub digit : ℕ → Bool
 digit b = leb 48 b && leb b 57
 
 unfoldable pub goes-on : ℕ → ℕ → Bool
 goes-on n b = digit b && (ltb 0 n && leb n 99999999)
 
-unfoldable pub digits-at : ℕ → List ℕ → Parsed ℕ
-digits-at n [] = none
-digits-at n (b ∷ s) = if eqb b 41 then got n s else if goes-on n b then digits-at (n * 10 + (b - 48)) s else none
+unfoldable pub digits-to : ℕ → ℕ → List ℕ → Parsed ℕ
+digits-to end n [] = none
+digits-to end n (b ∷ s) = if eqb b end then got n s else if goes-on n b then digits-to end (n * 10 + (b - 48)) s else none
 
-unfoldable pub number-at : List ℕ → Parsed ℕ
-number-at [] = none
-number-at (b ∷ s) = if digit b then digits-at (b - 48) s else none
+unfoldable pub number-to : ℕ → List ℕ → Parsed ℕ
+number-to end [] = none
+number-to end (b ∷ s) = if digit b then digits-to end (b - 48) s else none
+
+-- a number and a bracket
+abbrev pub number-at : List ℕ → Parsed ℕ
+number-at s = number-to 41 s
 
 -- a word and then a number; the same with a word behind it; a word that stands for a value
 unfoldable pub field-at : List ℕ → List ℕ → Parsed ℕ

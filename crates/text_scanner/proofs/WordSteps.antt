@@ -11,7 +11,7 @@ use lib.Dec.{eqb}
 use lib.ListN.{length, drop, getD, drop-of-length-le}
 use lib.Seq.{drop-cons}
 use Rattle.lists.specs.Lists.{if_then_else_}
-use Rattle.text_grammar.specs.Parse.{none, got, word-at, digit, goes-on, digits-at, number-at}
+use Rattle.text_grammar.specs.Parse.{none, got, word-at, digit, goes-on, digits-to, number-to}
 
 -- a word longer than the rest of the text; its byte i against byte j of the text; its end
 pub word-short : (w s : List ℕ) → length s < length w → word-at w s ≡ none
@@ -37,34 +37,34 @@ pub word-all : (t w : List ℕ) (i : ℕ) → length w ≤ i → word-at (drop i
 unfolding word-at
 word-all t w i h = rw (drop-of-length-le w {i = i} h)
 
--- the end of the text; its byte j as the bracket, as a further digit, and as none
-pub digits-end : (t : List ℕ) (n j : ℕ) → length t ≤ j → digits-at n (drop j t) ≡ none
-unfolding digits-at
-digits-end t n j h = rw (drop-of-length-le t {i = j} h)
+-- the end of the text; its byte j as the one behind the number, as a further digit, and as none
+pub digits-end : (end : ℕ) (t : List ℕ) (n j : ℕ) → length t ≤ j → digits-to end n (drop j t) ≡ none
+unfolding digits-to
+digits-end end t n j h = rw (drop-of-length-le t {i = j} h)
 
-module _ (t : List ℕ) (n j : ℕ) (h : j < length t) where
-  pub digits-done : getD t j 0 ≡ 41 → digits-at n (drop j t) ≡ got n (drop (j + 1) t)
-  unfolding digits-at
-  digits-done e = rw (add-one j, drop-cons t j 0 h, e)
+module _ (end : ℕ) (t : List ℕ) (n j : ℕ) (h : j < length t) where
+  pub digits-done : getD t j 0 ≡ end → digits-to end n (drop j t) ≡ got n (drop (j + 1) t)
+  unfolding digits-to
+  digits-done e = rw (add-one j, drop-cons t j 0 h, e, eq-eqb end end refl)
 
-  pub digits-next : (getD t j 0 ≡ 41 → ⊥) → goes-on n (getD t j 0) ≡ true → digits-at n (drop j t) ≡ digits-at (n * 10 + (getD t j 0 - 48)) (drop (j + 1) t)
-  unfolding digits-at
-  digits-next e g = rw (add-one j, drop-cons t j 0 h, ne-eqb (getD t j 0) 41 e, g)
+  pub digits-next : (getD t j 0 ≡ end → ⊥) → goes-on n (getD t j 0) ≡ true → digits-to end n (drop j t) ≡ digits-to end (n * 10 + (getD t j 0 - 48)) (drop (j + 1) t)
+  unfolding digits-to
+  digits-next e g = rw (add-one j, drop-cons t j 0 h, ne-eqb (getD t j 0) end e, g)
 
-  pub digits-off : (getD t j 0 ≡ 41 → ⊥) → goes-on n (getD t j 0) ≡ false → digits-at n (drop j t) ≡ none
-  unfolding digits-at
-  digits-off e g = rw (drop-cons t j 0 h, ne-eqb (getD t j 0) 41 e, g)
+  pub digits-off : (getD t j 0 ≡ end → ⊥) → goes-on n (getD t j 0) ≡ false → digits-to end n (drop j t) ≡ none
+  unfolding digits-to
+  digits-off e g = rw (drop-cons t j 0 h, ne-eqb (getD t j 0) end e, g)
 
 -- the first digit of a number
-pub number-end : (t : List ℕ) (j : ℕ) → length t ≤ j → number-at (drop j t) ≡ none
-unfolding number-at
-number-end t j h = rw (drop-of-length-le t {i = j} h)
+pub number-end : (end : ℕ) (t : List ℕ) (j : ℕ) → length t ≤ j → number-to end (drop j t) ≡ none
+unfolding number-to
+number-end end t j h = rw (drop-of-length-le t {i = j} h)
 
-module _ (t : List ℕ) (j : ℕ) (h : j < length t) where
-  pub number-next : digit (getD t j 0) ≡ true → number-at (drop j t) ≡ digits-at (getD t j 0 - 48) (drop (j + 1) t)
-  unfolding number-at
+module _ (end : ℕ) (t : List ℕ) (j : ℕ) (h : j < length t) where
+  pub number-next : digit (getD t j 0) ≡ true → number-to end (drop j t) ≡ digits-to end (getD t j 0 - 48) (drop (j + 1) t)
+  unfolding number-to
   number-next g = rw (add-one j, drop-cons t j 0 h, g)
 
-  pub number-off : digit (getD t j 0) ≡ false → number-at (drop j t) ≡ none
-  unfolding number-at
+  pub number-off : digit (getD t j 0) ≡ false → number-to end (drop j t) ≡ none
+  unfolding number-to
   number-off g = rw (drop-cons t j 0 h, g)

@@ -1,5 +1,5 @@
-// What stands at a position of a plan text: digits, words and numbers, the ends of lines, and whole lines, each equal
-// to the grammar's function there.
+// What stands at a position of a text: digits, words and numbers; the ends of a plan's lines, and its whole lines; each
+// equal to the grammar's function there.
 // Document 01: "Line kinds stand in the order of this example"
 mod digits;
 mod line_ends;
@@ -16,3 +16,8 @@ pub use lines::plan_line;
 pub use lines::process;
 pub use lines::slot;
 pub use words::NumberAt;
+pub use words::WordAt;
+pub use words::closed;
+pub use words::field;
+pub use words::number_to;
+pub use words::word;

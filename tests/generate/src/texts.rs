@@ -14,7 +14,7 @@ pub struct Damaged {
     pub refusal: Option<u8>,
 }
 
-fn damaged(what: &'static str, text: Vec<u8>, refusal: Option<u8>) -> Damaged {
+pub(crate) fn damaged(what: &'static str, text: Vec<u8>, refusal: Option<u8>) -> Damaged {
     Damaged {
         what,
         text,
@@ -163,42 +163,42 @@ fn head_in_slot(lines: &Lines, text: &[u8], random: &mut Random) -> Vec<u8> {
     all.concat()
 }
 
-fn flipped(text: &[u8], random: &mut Random) -> Vec<u8> {
+pub(crate) fn flipped(text: &[u8], random: &mut Random) -> Vec<u8> {
     let mut text = text.to_vec();
     let place = random.index(text.len());
     text[place] ^= 1 << random.below(8);
     text
 }
 
-fn replaced(text: &[u8], random: &mut Random) -> Vec<u8> {
+pub(crate) fn replaced(text: &[u8], random: &mut Random) -> Vec<u8> {
     let mut text = text.to_vec();
     let place = random.index(text.len());
     text[place] = random.one_of(b"0123456789() \naltfe");
     text
 }
 
-fn swapped(text: &[u8], random: &mut Random) -> Vec<u8> {
+pub(crate) fn swapped(text: &[u8], random: &mut Random) -> Vec<u8> {
     let mut text = text.to_vec();
     let place = random.index(text.len() - 1);
     text.swap(place, place + 1);
     text
 }
 
-fn cut(text: &[u8], random: &mut Random) -> Vec<u8> {
+pub(crate) fn cut(text: &[u8], random: &mut Random) -> Vec<u8> {
     text[..random.index(text.len())].to_vec()
 }
 
-fn cut_in_line(text: &[u8], random: &mut Random) -> Vec<u8> {
+pub(crate) fn cut_in_line(text: &[u8], random: &mut Random) -> Vec<u8> {
     let places: Vec<usize> = (1..text.len()).filter(|&p| text[p - 1] != b'\n').collect();
     text[..random.one_of(&places)].to_vec()
 }
 
 /// The lines of a text, each with its line feed.
-fn split(text: &[u8]) -> Vec<&[u8]> {
+pub(crate) fn split(text: &[u8]) -> Vec<&[u8]> {
     text.split_inclusive(|&b| b == b'\n').collect()
 }
 
-fn doubled_line(text: &[u8], random: &mut Random) -> Vec<u8> {
+pub(crate) fn doubled_line(text: &[u8], random: &mut Random) -> Vec<u8> {
     let mut lines = split(text);
     let line = random.index(lines.len());
     lines.insert(line, lines[line]);
@@ -211,13 +211,13 @@ fn doubled_plan(text: &[u8]) -> Vec<u8> {
     lines.concat()
 }
 
-fn removed_line(text: &[u8], random: &mut Random) -> Vec<u8> {
+pub(crate) fn removed_line(text: &[u8], random: &mut Random) -> Vec<u8> {
     let mut lines = split(text);
     lines.remove(random.index(lines.len()));
     lines.concat()
 }
 
-fn swapped_lines(text: &[u8], random: &mut Random) -> Vec<u8> {
+pub(crate) fn swapped_lines(text: &[u8], random: &mut Random) -> Vec<u8> {
     let mut lines = split(text);
     let (a, b) = (random.index(lines.len()), random.index(lines.len()));
     lines.swap(a, b);
@@ -236,11 +236,11 @@ fn insert(text: &[u8], place: usize, bytes: &[u8]) -> Vec<u8> {
     [&text[..place], bytes, &text[place..]].concat()
 }
 
-fn leading_zero(text: &[u8], random: &mut Random) -> Vec<u8> {
+pub(crate) fn leading_zero(text: &[u8], random: &mut Random) -> Vec<u8> {
     insert(text, number_place(text, random), b"0")
 }
 
-fn ten_digits(text: &[u8], random: &mut Random) -> Vec<u8> {
+pub(crate) fn ten_digits(text: &[u8], random: &mut Random) -> Vec<u8> {
     insert(
         text,
         number_place(text, random),
@@ -248,28 +248,28 @@ fn ten_digits(text: &[u8], random: &mut Random) -> Vec<u8> {
     )
 }
 
-fn no_digit(text: &[u8], random: &mut Random) -> Vec<u8> {
+pub(crate) fn no_digit(text: &[u8], random: &mut Random) -> Vec<u8> {
     let place = number_place(text, random);
     let digits = text[place..].iter().take_while(|b| b.is_ascii_digit());
     let after = place + digits.count();
     [&text[..place], &text[after..]].concat()
 }
 
-fn inserted(text: &[u8], byte: u8, random: &mut Random) -> Vec<u8> {
+pub(crate) fn inserted(text: &[u8], byte: u8, random: &mut Random) -> Vec<u8> {
     insert(text, random.index(text.len() + 1), &[byte])
 }
 
-fn before_feed(text: &[u8], bytes: &[u8], random: &mut Random) -> Vec<u8> {
+pub(crate) fn before_feed(text: &[u8], bytes: &[u8], random: &mut Random) -> Vec<u8> {
     let places: Vec<usize> = (0..text.len()).filter(|&p| text[p] == b'\n').collect();
     insert(text, random.one_of(&places), bytes)
 }
 
-fn doubled_space(text: &[u8], random: &mut Random) -> Vec<u8> {
+pub(crate) fn doubled_space(text: &[u8], random: &mut Random) -> Vec<u8> {
     let places: Vec<usize> = (0..text.len()).filter(|&p| text[p] == b' ').collect();
     insert(text, random.one_of(&places), b" ")
 }
 
-fn upper_case(text: &[u8], random: &mut Random) -> Vec<u8> {
+pub(crate) fn upper_case(text: &[u8], random: &mut Random) -> Vec<u8> {
     let places: Vec<usize> = (0..text.len())
         .filter(|&p| text[p].is_ascii_lowercase())
         .collect();

@@ -43,6 +43,13 @@ mod linked {
             delay: u64,
         ) -> u64;
 
+        pub fn riscadru_check_listing(
+            text: *const u8,
+            text_length: usize,
+            listing: *const u8,
+            listing_length: usize,
+        ) -> u64;
+
         pub fn riscadru_lookup(
             text: *const u8,
             text_length: usize,
@@ -69,7 +76,7 @@ pub fn refused(number: u8) -> u64 {
 /// The number by which the lookup says that there is no such entry.
 pub const NONE: u64 = u64::MAX;
 
-/// The number by which the checker accepts a table.
+/// The number by which the checker accepts a table, or a listing.
 pub const ACCEPTED: u64 = 0;
 
 /// Reads a plan text and writes the plan again, to the front of the lent bytes.
@@ -112,6 +119,14 @@ pub fn check_table(text: &[u8], table: &[u8], delay: u64) -> u64 {
             table.len(),
             delay,
         )
+    }
+}
+
+/// Checks a listing for a plan text.
+pub fn check_listing(text: &[u8], listing: &[u8]) -> u64 {
+    // SAFETY: each pointer and length are those of one slice, and neither slice is written.
+    unsafe {
+        linked::riscadru_check_listing(text.as_ptr(), text.len(), listing.as_ptr(), listing.len())
     }
 }
 

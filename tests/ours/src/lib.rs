@@ -2,7 +2,8 @@
 //! share.
 //!
 //! The build script looks for `target/staticlib/libc_interface.a` two folders up and sets `have_archive`.
-//! Without the archive this crate is empty and the tests in `tests/` do not exist.
+//! Without the archive this crate has only what runs our programs, and the tests in `tests/` that need
+//! the archive do not exist.
 
 #[cfg(have_archive)]
 pub mod archive;
@@ -12,5 +13,6 @@ pub mod comparing;
 pub mod firmware;
 #[cfg(have_archive)]
 pub mod linking;
+pub mod program;
 #[cfg(have_archive)]
 pub mod tree;

@@ -1,6 +1,6 @@
 //! Copies of the repository in which the command `./riscadru` is tried. A copy has the command with what
-//! it reads, five small crates, the planning program and the archive as if just built, and a program in
-//! the place of `rt`, so that no test proves or builds anything.
+//! it reads, six small crates, the programs and the archive as if just built, and a program in the place
+//! of `rt`, so that no test proves or builds anything.
 
 use std::fs::{self, File, Permissions};
 use std::io::{ErrorKind, Write};
@@ -11,12 +11,16 @@ use std::process::{Child, Command, Stdio};
 
 use crate::linking::root;
 
-/// The crates of a copy: the program rests on three, the archive on four.
+/// The programs.
+pub const PROGRAMS: [&str; 2] = ["riscadru_plan", "riscadru_check"];
+
+/// The crates of a copy: a program rests on three, the archive on four.
 const CRATES: &str = "\
 # level 0
 lists:
 model: lists # the definitions
 riscadru_plan: model io
+riscadru_check: model io
 c_text: model
 c_interface: c_text model lists
 ";
@@ -73,13 +77,14 @@ impl Tree {
             "docs/REFUSALS.md",
             "draw/draw.awk",
             "examples/s.plan",
+            "examples/s.listing",
             "include/riscadru.h",
+            "where/text.awk",
+            "where/where.awk",
+            "where/table.awk",
+            "where/listing.awk",
         ] {
             tree.copy(&root().join(file), file);
-        }
-        let looks = "where/where.awk";
-        if root().join(looks).exists() {
-            tree.copy(&root().join(looks), looks);
         }
         tree.write("crates.txt", CRATES);
         for line in CRATES.lines().skip(1) {
@@ -88,9 +93,11 @@ impl Tree {
         }
         fs::create_dir_all(tree.root.join("tmp")).expect("a folder for temporary files");
         tree.set_rt(NO_RT);
-        let program = root().join("target/bin/riscadru_plan");
-        tree.copy(&program, "target/bin/riscadru_plan");
-        tree.write("target/stamp/riscadru_plan", "a stamp\n");
+        for program in PROGRAMS {
+            let built = format!("target/bin/{program}");
+            tree.copy(&root().join(&built), &built);
+            tree.write(&format!("target/stamp/{program}"), "a stamp\n");
+        }
         let archive = root().join("target/staticlib/libc_interface.a");
         tree.copy(&archive, "target/riscadru/libriscadru.a");
         tree

@@ -1,7 +1,7 @@
 //! The command `./riscadru` where something is to be built: when it builds, how it tells its progress,
 //! and what it leaves where the build fails or is interrupted. A small program stands in the place of
 //! `rt` (see `ours::tree`).
-#![cfg(all(have_program, have_archive))]
+#![cfg(all(have_program, have_check_program, have_archive))]
 
 use std::fs::{self, File};
 use std::path::Path;
@@ -9,11 +9,11 @@ use std::process::Command;
 use std::time::{Duration, Instant, SystemTime};
 
 use ours::linking::root;
-use ours::tree::{started, Ended, Tree};
+use ours::tree::{started, Ended, Tree, PROGRAMS};
 use suite::S_LISTING;
 
-/// An `rt` that says what the real one says, and leaves a program and an archive. It keeps its calls in
-/// the file `calls`.
+/// An `rt` that says what the real one says, and leaves the programs and an archive. It keeps its calls
+/// in the file `calls`.
 const RT: &str = r#"
 echo "$*" >>calls
 prove() {
@@ -26,13 +26,13 @@ check)
     prove lists 'unchanged since it was last proved'
     prove model '2 s'
     case " $* " in
-    *' riscadru_plan '*)
-        prove riscadru_plan '1 s'
+    *' riscadru_'*)
+        prove $2 '1 s'
         mkdir -p target/bin target/stamp
-        cp built target/bin/riscadru_plan.tmp-1
-        mv target/bin/riscadru_plan.tmp-1 target/bin/riscadru_plan
-        echo stamp >target/stamp/riscadru_plan
-        echo "rt: riscadru_plan ran, and wrote what its file 'stdout' has (0 s)"
+        cp built/$2 target/bin/$2.tmp-1
+        mv target/bin/$2.tmp-1 target/bin/$2
+        echo stamp >target/stamp/$2
+        echo "rt: $2 ran, and wrote what its file 'stdout' has (0 s)"
         ;;
     *' c_text '*) prove c_text '1 s' ;;
     esac
@@ -73,7 +73,10 @@ wait
 /// A copy in which nothing is built.
 fn unbuilt(name: &str, rt: &str) -> Tree {
     let tree = Tree::new(name);
-    tree.copy(&root().join("target/bin/riscadru_plan"), "built");
+    for program in PROGRAMS {
+        let from = root().join("target/bin").join(program);
+        tree.copy(&from, &format!("built/{program}"));
+    }
     fs::remove_dir_all(tree.root.join("target")).expect("what is built");
     tree.set_rt(rt);
     tree
@@ -131,6 +134,28 @@ fn what_is_missing_or_older_than_a_source_is_built() {
     assert_eq!(calls(&tree).len(), before.len() + 1);
 }
 
+/// Each program is built for its own command.
+#[test]
+fn the_checking_program_is_built() {
+    let tree = unbuilt("check", RT);
+    let words = ["check", "examples/s.plan", "examples/s.listing"];
+    let ended = tree.run(&words);
+    assert_eq!(
+        (ended.status, &ended.printed[..]),
+        (0, &b"(accepted)\n"[..]),
+        "{ended:?}"
+    );
+    assert!(ended.said.contains("[3/3] riscadru_check\n"), "{ended:?}");
+    assert_eq!(calls(&tree), ["check riscadru_check"]);
+    tree.run(&words).done(b"(accepted)\n");
+    assert_eq!(calls(&tree).len(), 1);
+    builds(&tree);
+    tree.run(&words).done(b"(accepted)\n");
+    tree.write("crates/model/src/lib.rt", "// another source\n");
+    assert_eq!(tree.run(&words).status, 0);
+    assert_eq!(calls(&tree)[2..], ["check riscadru_check"]);
+}
+
 #[test]
 fn a_source_that_is_changed_during_the_build_is_newer() {
     let change = "echo '// changed' >>crates/lists/src/lib.rt\n";
@@ -148,6 +173,9 @@ fn a_source_that_is_changed_during_the_build_is_newer() {
 fn a_wrong_call_builds_nothing() {
     let tree = unbuilt("wrong", RT);
     tree.run(&["plan", "nothing"]).failed("there is no file");
+    tree.run(&["check", "-", "-"]).failed("only one of");
+    tree.run(&["check", "examples/s.plan", "nothing"])
+        .failed("there is no file");
     tree.run(&["draw", "-c", "x"]).failed("no number");
     tree.run(&["build", "x"]).failed("one word too many");
     tree.run(&["install"]).failed("a folder PREFIX is wanted");
@@ -239,6 +267,7 @@ fn install_builds_what_it_needs() {
     assert_eq!(ended.status, 0, "{ended:?}");
     let wanted = [
         "check riscadru_plan",
+        "check riscadru_check",
         "check c_text model lists",
         "staticlib c_interface",
     ];
@@ -269,6 +298,7 @@ fn a_failed_build_has_status_2() {
     fs::create_dir_all(tree.root.join("target/bin")).expect("a folder");
     for words in [
         &["plan", "examples/s.plan"][..],
+        &["check", "examples/s.plan", "examples/s.listing"],
         &["draw", "examples/s.plan"],
         &["build"],
         &["install", "x"],
@@ -303,6 +333,7 @@ fn a_failed_build_has_status_2() {
     {
         for words in [
             &["plan", "examples/s.plan"][..],
+            &["check", "examples/s.plan", "examples/s.listing"],
             &["build"],
             &["cases"],
             &["test"],

@@ -1,5 +1,5 @@
-//! Feeds bytes of any kind to every function of the archive: texts and tables flipped, cut, spliced
-//! or random, in lent bytes that are watched on either side. Every call returns, writes nothing but
+//! Feeds bytes of any kind to every function of the archive: texts, tables and listings flipped, cut,
+//! spliced or random, in lent bytes that are watched on either side. Every call returns, writes nothing but
 //! what it says it wrote, and answers as the reference does as far as that is asked here. Without
 //! the archive there are no tests here; the gate builds it first.
 //!
@@ -10,13 +10,13 @@ use std::process::Command;
 
 use generate::{plan, Kind, Random};
 use ours::archive::{
-    check_table, copy_plan, lookup, plan_listing, plan_table, refused, row_query, Question,
-    ACCEPTED,
+    check_listing, check_table, copy_plan, lookup, plan_listing, plan_table, refused, row_query,
+    Question, ACCEPTED,
 };
 use ours::comparing::{as_asked, bytes, plans, random_bytes, Lent};
 use reference::lookup::{c_lookup, little_endian_words};
-use reference::{check, list_plan, print, read};
-use suite::{cases, planned};
+use reference::{check, list_plan, listing, print, read};
+use suite::{cases, planned, s};
 
 /// The kinds of plans whose texts and tables are mutated: those that are planned quickly.
 const SMALL: [Kind; 4] = [
@@ -81,16 +81,31 @@ fn mutated(input: &[u8], other: &[u8], random: &mut Random) -> Vec<u8> {
     input
 }
 
-/// A plan text and its table as bytes, to be mutated.
-fn original(random: &mut Random) -> (Vec<u8>, Vec<u8>, u64) {
+/// A plan text, its table as bytes with its delay, and its listing, to be mutated.
+struct Original {
+    text: Vec<u8>,
+    table: Vec<u8>,
+    delay: u64,
+    listing: Vec<u8>,
+}
+
+/// A plan that is planned quickly; where it is refused, with the table and the listing of S.
+fn original(random: &mut Random) -> Original {
     let lines = match random.percent(20) {
         true => random.one_of(&cases::all()[..20]).1,
         false => plan(random.one_of(&SMALL), random),
     };
     let text = print(&lines);
-    match reference::plan(&lines, usize::MAX, usize::MAX) {
-        Ok(planned) => (text, bytes(&planned.words), planned.delay),
-        Err(_) => (text, bytes(&planned(&suite::s()).words), 34),
+    let (lines, planned) = match reference::plan(&lines, usize::MAX, usize::MAX) {
+        Ok(planned) => (lines, planned),
+        Err(_) => (s(), planned(&s())),
+    };
+    let (delay, passed) = (planned.delay, planned.passed);
+    Original {
+        text,
+        table: bytes(&planned.words),
+        delay,
+        listing: listing(&lines, delay, passed, &planned.words, &planned.frames),
     }
 }
 
@@ -118,7 +133,7 @@ fn only_the_front(lent: &Lent, before: &Lent, written: u64, what: &str) {
 
 /// How many bytes an answer says were written.
 fn written(answer: u64) -> u64 {
-    if answer >= refused(20) {
+    if answer >= refused(22) {
         0
     } else {
         answer
@@ -203,6 +218,14 @@ fn read_with(text: &mut Lent, table: &mut Lent, delay: u64, random: &mut Random)
     answer
 }
 
+/// The function that reads a listing.
+fn check_with(text: &mut Lent, listing: &mut Lent) -> u64 {
+    let wanted = reference::check_listing(text.lent(), listing.lent());
+    let answer = check_listing(text.lent(), listing.lent());
+    assert_eq!(answer, wanted.map_or(ACCEPTED, refused));
+    answer
+}
+
 /// Prints the number of the input that a test was busy with, if the test fails.
 struct Input(u64);
 
@@ -214,37 +237,50 @@ impl Drop for Input {
     }
 }
 
+/// The place of an answer of a checker: 0 for acceptance, or the refusal's number.
+fn place(answer: u64) -> usize {
+    match answer {
+        ACCEPTED => 0,
+        refusal => (u64::MAX - refusal) as usize,
+    }
+}
+
 #[test]
 fn bytes_of_any_kind() {
-    let mut answers = [0u64; 21];
+    let (mut answers, mut of_listings) = ([0u64; 23], [0u64; 23]);
     for number in 0..plans() {
         let _shown = Input(number);
         let random = &mut Random::new(7 << 48 | number);
-        let (text, table, delay) = original(random);
+        let first = original(random);
         let other = original(random);
         let text = match random.percent(30) {
-            true => text,
-            false => mutated(&text, &other.0, random),
+            true => first.text,
+            false => mutated(&first.text, &other.text, random),
         };
         let mut text = lend(&text, random);
-        let mut table = lend(&mutated(&table, &other.1, random), random);
+        let mut table = lend(&mutated(&first.table, &other.table, random), random);
         let before = (text.clone(), table.clone());
         let wanted = read(text.lent()).err();
         write_with(&mut text, wanted, random);
-        let answer = read_with(&mut text, &mut table, delay, random);
+        let answer = read_with(&mut text, &mut table, first.delay, random);
+        answers[place(answer)] += 1;
+
+        let mut listing = lend(&mutated(&first.listing, &other.listing, random), random);
+        let listing_before = listing.clone();
+        let answer = check_with(&mut text, &mut listing);
+        of_listings[place(answer)] += 1;
+
         text.assert_is(&before.0.bytes, "text", "which nothing may write");
         table.assert_is(&before.1.bytes, "table", "which nothing may write");
-        let place = if answer == ACCEPTED {
-            0
-        } else {
-            u64::MAX - answer
-        };
-        answers[place as usize] += 1;
+        listing.assert_is(&listing_before.bytes, "listing", "which nothing may write");
     }
     println!("{} inputs, answers of the checker: {answers:?}", plans());
+    println!("and of the check of listings: {of_listings:?}");
     let least = plans() / 1_000;
     let seen = [0, 1, 3, 4, 6, 12, 13, 14, 16];
     assert!(seen.iter().all(|&place| answers[place] >= least));
+    let seen = [0, 1, 3, 4, 6, 14, 16, 21, 22];
+    assert!(seen.iter().all(|&place| of_listings[place] >= least));
 }
 
 /// The same, with fewer inputs and every access to memory watched.

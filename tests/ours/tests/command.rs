@@ -4,7 +4,7 @@
 //!
 //! Not tested: a file without the right to be read, since root, as which the gate may run, reads every
 //! file.
-#![cfg(all(have_program, have_archive))]
+#![cfg(all(have_program, have_check_program, have_archive))]
 
 use std::path::{Path, PathBuf};
 use std::process::Command;
@@ -17,7 +17,9 @@ use reference::print;
 use suite::{S, S_LISTING};
 
 /// The commands that there are.
-const COMMANDS: [&str; 7] = ["plan", "draw", "build", "install", "cases", "test", "help"];
+const COMMANDS: [&str; 8] = [
+    "plan", "check", "draw", "build", "install", "cases", "test", "help",
+];
 
 /// A text that is refused with 1.
 const NO_PLAN: &[u8] = b"(plan\n";
@@ -411,16 +413,17 @@ fn files(folder: &Path) -> Vec<String> {
 }
 
 /// What is installed, with the rights.
-const INSTALLED: [&str; 5] = [
+const INSTALLED: [&str; 6] = [
     "644 include/riscadru.h",
     "644 lib/libriscadru.a",
     "644 lib/pkgconfig/riscadru.pc",
     "644 share/doc/riscadru/REFUSALS.md",
+    "755 bin/riscadru_check",
     "755 bin/riscadru_plan",
 ];
 
 #[test]
-fn install_writes_five_files() {
+fn install_writes_six_files() {
     let tree = Tree::new("install");
     let below = tree.root.join("below");
     std::fs::create_dir(&below).expect("a folder");
@@ -433,7 +436,7 @@ fn install_writes_five_files() {
             assert_eq!((ended.status, &ended.said[..]), (0, ""), "{ended:?}");
             assert_eq!(files(&below.join(prefix)), INSTALLED);
             let names = String::from_utf8(ended.printed).expect("text");
-            assert_eq!(names.lines().count(), 5);
+            assert_eq!(names.lines().count(), 6);
             assert!(
                 names.lines().all(|name| Path::new(name).is_file()),
                 "{names}"
@@ -444,6 +447,7 @@ fn install_writes_five_files() {
             assert_eq!(Some(there), tree.read(of), "{name}");
         };
         same("bin/riscadru_plan", "target/bin/riscadru_plan");
+        same("bin/riscadru_check", "target/bin/riscadru_check");
         same("lib/libriscadru.a", "target/riscadru/libriscadru.a");
         same("include/riscadru.h", "include/riscadru.h");
         same("share/doc/riscadru/REFUSALS.md", "docs/REFUSALS.md");

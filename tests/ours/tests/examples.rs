@@ -1,23 +1,25 @@
 //! The plans in `examples/`: each is planned, checked, drawn and run, and the page that explains
-//! them names what comes out. Without the archive and the planning program there are no tests here;
-//! the gate builds them first.
-#![cfg(all(have_archive, have_program))]
+//! them names what comes out; and the listings there, each of which is checked. Without the archive and
+//! the programs there are no tests here; the gate builds them first.
+#![cfg(all(have_archive, have_program, have_check_program))]
 
 use std::fs::File;
+use std::io::Write;
 use std::path::{Path, PathBuf};
-use std::process::Command;
+use std::process::{Command, Stdio};
 use std::sync::OnceLock;
 
 use ours::archive::{check_table, plan_listing, plan_table, refused, ACCEPTED};
 use ours::comparing::bytes;
 use ours::firmware::{build, letters};
 use ours::linking::root;
+use ours::tree::Tree;
 use reference::bus::round_ticks;
 use reference::table::{entries, frames, ENTRY_WORDS, FRAME_WORDS};
 use reference::who_runs::{combinations, value, Combination};
 use reference::{print, read, Lines, Pick, Planned, Waits, When};
 use suite::drawing::compare;
-use suite::{bus, planned, With, S};
+use suite::{bus, planned, With, S, S_LISTING};
 
 /// A plan of the folder `examples` and what the reference plans for it.
 struct Example {
@@ -48,13 +50,19 @@ fn example(name: &str) -> Example {
     }
 }
 
-/// All plans of the folder.
-fn examples() -> Vec<Example> {
+/// The names of the folder's files with this extension.
+fn names(extension: &str) -> Vec<String> {
     let folder = std::fs::read_dir(root().join("examples")).expect("the folder examples");
     let paths = folder.map(|file| file.expect("a file").path());
-    let plans = paths.filter(|path| path.extension().is_some_and(|e| e == "plan"));
-    let names = plans.map(|path| path.file_stem().unwrap().to_str().unwrap().to_string());
-    names.map(|name| example(&name)).collect()
+    let chosen = paths.filter(|path| path.extension().is_some_and(|e| e == extension));
+    chosen
+        .map(|path| path.file_stem().unwrap().to_str().unwrap().to_string())
+        .collect()
+}
+
+/// All plans of the folder.
+fn examples() -> Vec<Example> {
+    names("plan").iter().map(|name| example(name)).collect()
 }
 
 /// The page that explains the examples.
@@ -227,6 +235,94 @@ fn each_table_is_accepted() {
             assert_eq!(check(wrong), refused(20), "{}", example.name);
         }
     }
+}
+
+/// What the checking program prints for an input.
+fn checked(input: &[u8]) -> String {
+    let mut child = Command::new(root().join("target/bin/riscadru_check"))
+        .stdin(Stdio::piped())
+        .stdout(Stdio::piped())
+        .spawn()
+        .expect("the checking program");
+    let mut stdin = child.stdin.take().expect("its standard input");
+    stdin.write_all(input).expect("what it reads");
+    drop(stdin);
+    let output = child.wait_with_output().expect("its output");
+    String::from_utf8(output.stdout).expect("text")
+}
+
+/// Each plan with what is printed for it.
+#[test]
+fn each_printed_table_is_accepted() {
+    for example in examples() {
+        let listing = reference::program(&example.text);
+        let input = [&example.text[..], b"\n", &listing].concat();
+        assert_eq!(checked(&input), "(accepted)\n", "{}", example.name);
+    }
+}
+
+/// Each listing of the folder, with the plan and the answer that the page names.
+#[test]
+fn each_listing_is_checked() {
+    let mut rows = Vec::new();
+    for row in table("| listing | for | answer |") {
+        let name = |cell: &str| {
+            let name = cell
+                .strip_prefix('[')
+                .and_then(|rest| rest.split_once("]("));
+            let (name, link) = name.expect("a link");
+            assert_eq!(link.strip_suffix(')'), Some(name));
+            name.to_string()
+        };
+        let read = |name: &str| std::fs::read(root().join("examples").join(name)).expect("a text");
+        let (listing, plan) = (name(&row[0]), name(&row[1]));
+        let (plan, text) = (read(&plan), read(&listing));
+        let answer = format!("{}\n", row[2].trim_matches('`'));
+        let input = [&plan[..], b"\n", &text].concat();
+        assert_eq!(checked(&input), answer, "{listing}");
+        assert_eq!(reference::check_program(&input), answer.as_bytes());
+        rows.push(
+            listing
+                .strip_suffix(".listing")
+                .expect("a listing")
+                .to_string(),
+        );
+    }
+    let mut all = names("listing");
+    all.sort();
+    rows.sort();
+    assert_eq!(rows, all);
+}
+
+/// S's listing is that of document 01; the other differs in one line, and the page says what is said of it.
+#[test]
+fn the_page_says_why_a_listing_is_refused() {
+    let read = |name: &str| {
+        let file = root().join("examples").join(name);
+        std::fs::read_to_string(file).expect("a listing")
+    };
+    let (whole, early) = (read("s.listing"), read("s-early.listing"));
+    assert_eq!(whole, S_LISTING);
+    let pairs = whole.lines().zip(early.lines()).zip(1..);
+    let other: Vec<(&str, usize)> = pairs
+        .filter(|((a, b), _)| a != b)
+        .map(|((_, line), number)| (line, number))
+        .collect();
+    let [(line, number)] = other[..] else {
+        panic!("{other:?}");
+    };
+    let tree = Tree::new("examples");
+    let name = "examples/s-early.listing";
+    tree.copy(&root().join(name), name);
+    let said = tree.run(&["check", "examples/s.plan", name]).said;
+    let (_, said) = said.split_once('\n').expect("a sentence");
+    let begins = format!("listing ('{name}'), line {number}: {line}\n");
+    assert!(said.starts_with(&begins), "{said}");
+    let shown: Vec<String> = said.lines().map(|line| format!("    {line}\n")).collect();
+    page_says(&[
+        shown.concat(),
+        format!("line {number} has process 3 start at tick 31"),
+    ]);
 }
 
 /// One panel for each combination, with the boxes that the table has.

@@ -41,6 +41,7 @@ uint64_t (*copy_plan)(in, size_t, out, size_t) = riscadru_copy_plan;
 uint64_t (*plan_table)(in, size_t, out, size_t, out, size_t, out, size_t) = riscadru_plan_table;
 uint64_t (*plan_listing)(in, size_t, out, size_t) = riscadru_plan_listing;
 uint64_t (*check_table)(in, size_t, in, size_t, uint64_t) = riscadru_check_table;
+uint64_t (*check_listing)(in, size_t, in, size_t) = riscadru_check_listing;
 uint64_t (*lookup)(in, size_t, in, size_t, uint32_t, uint32_t, uint32_t, uint32_t, size_t) =
     riscadru_lookup;
 uint64_t (*row_start)(in, size_t, uint32_t) = riscadru_row_start;

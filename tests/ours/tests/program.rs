@@ -3,17 +3,16 @@
 #![cfg(have_program)]
 
 use std::fs::File;
-use std::io::{ErrorKind, Write};
-use std::os::fd::OwnedFd;
-use std::os::unix::net::{UnixDatagram, UnixStream};
+use std::io::Write;
 use std::path::PathBuf;
-use std::process::{Child, Command, Output, Stdio};
+use std::process::Stdio;
 use std::time::Duration;
 
 use generate::broken::{broken, NUMBERS};
 use generate::plans::{plan, Kind, KINDS};
 use generate::random::Random;
 use generate::texts::of_length;
+use ours::program::{fails_after, printed, said, Program};
 use reference::print;
 use suite::{about_the_room, s, S};
 
@@ -23,40 +22,12 @@ const NOT_READ: &str = "riscadru_plan: standard input could not be read\n";
 /// What the program says on standard error where a write fails.
 const NOT_WRITTEN: &str = "riscadru_plan: standard output could not be written\n";
 
-/// Starts the program.
-fn start(stdin: Stdio, stdout: Stdio) -> Child {
-    let root = PathBuf::from(env!("CARGO_MANIFEST_DIR"));
-    Command::new(root.join("../../target/bin/riscadru_plan"))
-        .stdin(stdin)
-        .stdout(stdout)
-        .stderr(Stdio::piped())
-        .spawn()
-        .expect("the planning program")
-}
-
-/// What the program prints on standard output, once it has ended with nothing said on standard
-/// error.
-fn printed(child: Child) -> Vec<u8> {
-    let output = child.wait_with_output().expect("its output");
-    assert!(output.status.success(), "{:?}", output.status);
-    assert_eq!(String::from_utf8_lossy(&output.stderr), "");
-    output.stdout
-}
+/// The planning program.
+const PROGRAM: Program = Program("riscadru_plan");
 
 /// What the program prints for some bytes on standard input, and how many of them it took.
 fn run(input: &[u8]) -> (Vec<u8>, usize) {
-    let mut child = start(Stdio::piped(), Stdio::piped());
-    let mut stdin = child.stdin.take().expect("its standard input");
-    let mut taken = 0;
-    for part in input.chunks(4_096) {
-        match stdin.write_all(part) {
-            Ok(()) => taken += part.len(),
-            Err(e) if e.kind() == ErrorKind::BrokenPipe => break,
-            Err(e) => panic!("writing to the program: {e}"),
-        }
-    }
-    drop(stdin);
-    (printed(child), taken)
+    PROGRAM.run(input)
 }
 
 /// The program prints what the reference prints.
@@ -127,22 +98,6 @@ fn stops_reading_a_long_input() {
     assert!(taken < endless.len(), "the program read {taken} bytes");
 }
 
-/// Puts a text on the program's standard input part by part, each of which is one read, then no bytes,
-/// which is the end; and gives what the program prints.
-fn run_by_parts(text: &[u8], mut part: impl FnMut() -> usize) -> Vec<u8> {
-    let (ours, theirs) = UnixDatagram::pair().expect("two sockets");
-    let child = start(Stdio::from(OwnedFd::from(theirs)), Stdio::piped());
-    let mut rest = text;
-    while !rest.is_empty() {
-        let (first, others) = rest.split_at(part().min(rest.len()));
-        assert_eq!(ours.send(first).expect("a part is sent"), first.len());
-        rest = others;
-    }
-    // a program that has read as many bytes as it wants does not take this
-    let _ = ours.send(&[]);
-    printed(child)
-}
-
 /// A text that is read in many short reads is planned as a whole.
 #[test]
 fn plans_what_is_read_in_parts() {
@@ -152,16 +107,16 @@ fn plans_what_is_read_in_parts() {
     texts.extend([16_384, 16_385].map(|length| of_length(&s(), length)));
     for text in texts {
         let wanted = reference::program(&text);
-        assert_eq!(run_by_parts(&text, || 1), wanted);
+        assert_eq!(PROGRAM.run_by_parts(&text, || 1), wanted);
         let parts = || random.between(1, 700) as usize;
-        assert_eq!(run_by_parts(&text, parts), wanted);
+        assert_eq!(PROGRAM.run_by_parts(&text, parts), wanted);
     }
 }
 
 /// The same by a pipe, with pauses in which the program reads what is there.
 #[test]
 fn plans_what_a_pipe_delivers_in_parts() {
-    let mut child = start(Stdio::piped(), Stdio::piped());
+    let mut child = PROGRAM.start(Stdio::piped(), Stdio::piped());
     let mut stdin = child.stdin.take().expect("its standard input");
     for part in S.as_bytes().chunks(60) {
         stdin.write_all(part).expect("a part is written");
@@ -171,36 +126,17 @@ fn plans_what_a_pipe_delivers_in_parts() {
     assert_eq!(printed(child), reference::program(S.as_bytes()));
 }
 
-/// What was printed on standard output and on standard error.
-fn said(child: Child) -> (String, String) {
-    let Output { stdout, stderr, .. } = child.wait_with_output().expect("its output");
-    let text = |bytes| String::from_utf8(bytes).expect("letters");
-    (text(stdout), text(stderr))
-}
-
-/// The program prints nothing where a read fails, and says so.
-fn nothing_printed(stdin: Stdio) {
-    let said = said(start(stdin, Stdio::piped()));
-    assert_eq!(said, (String::new(), NOT_READ.to_string()));
-}
-
 #[test]
 fn prints_nothing_where_standard_input_is_a_folder() {
     let folder = File::open(env!("CARGO_MANIFEST_DIR")).expect("this folder");
-    nothing_printed(Stdio::from(folder));
+    PROGRAM.prints_nothing(Stdio::from(folder), NOT_READ);
 }
 
-/// Reads give a whole plan or a part of one, and then fail: it is not planned. A read fails where the
-/// other end of two sockets was closed with bytes that nobody had read, after those are read that
-/// had come.
+/// Reads give a whole plan or a part of one, and then fail: it is not planned.
 #[test]
 fn prints_nothing_where_a_later_read_fails() {
     for length in [0, 1, S.len() / 2, S.len()] {
-        let (mut ours, mut theirs) = UnixStream::pair().expect("two sockets");
-        theirs.write_all(b"unread").expect("bytes are sent");
-        ours.write_all(&S.as_bytes()[..length]).expect("S is sent");
-        drop(ours);
-        nothing_printed(Stdio::from(OwnedFd::from(theirs)));
+        PROGRAM.prints_nothing(fails_after(&S.as_bytes()[..length]), NOT_READ);
     }
 }
 
@@ -209,7 +145,7 @@ fn prints_nothing_where_a_later_read_fails() {
 fn says_that_standard_output_could_not_be_written() {
     for text in [S, "(plan\n"] {
         let full = File::options().write(true).open("/dev/full");
-        let mut child = start(Stdio::piped(), Stdio::from(full.expect("/dev/full")));
+        let mut child = PROGRAM.start(Stdio::piped(), Stdio::from(full.expect("/dev/full")));
         let mut stdin = child.stdin.take().expect("its standard input");
         stdin
             .write_all(text.as_bytes())

@@ -217,16 +217,16 @@ fn read_when(rest: &mut Rest) -> Option<When> {
 }
 
 /// The part of a text that has not been read yet.
-struct Rest<'a>(&'a [u8]);
+pub(crate) struct Rest<'a>(pub(crate) &'a [u8]);
 
 impl Rest<'_> {
     /// Whether these letters come next.
-    fn begins(&self, letters: &str) -> bool {
+    pub(crate) fn begins(&self, letters: &str) -> bool {
         self.0.starts_with(letters.as_bytes())
     }
 
     /// Reads exactly these letters.
-    fn expect(&mut self, letters: &str) -> Option<()> {
+    pub(crate) fn expect(&mut self, letters: &str) -> Option<()> {
         if !self.begins(letters) {
             return None;
         }
@@ -235,7 +235,7 @@ impl Rest<'_> {
     }
 
     /// Reads the first of these words that comes next, and gives what it means.
-    fn one_of<T: Copy>(&mut self, words: &[(&str, T)]) -> Option<T> {
+    pub(crate) fn one_of<T: Copy>(&mut self, words: &[(&str, T)]) -> Option<T> {
         words
             .iter()
             .find(|(word, _)| self.expect(word).is_some())
@@ -243,7 +243,7 @@ impl Rest<'_> {
     }
 
     /// "numbers have one to nine decimal digits and no needless leading zero."
-    fn number(&mut self) -> Option<u64> {
+    pub(crate) fn number(&mut self) -> Option<u64> {
         let digits = self.0.iter().take_while(|b| b.is_ascii_digit()).count();
         let (number, rest) = self.0.split_at(digits);
         let needless_zero = digits > 1 && number[0] == b'0';

@@ -1,9 +1,15 @@
 //! What the tests share: document 01's example with document 02's parts, short ways to write plans,
-//! the plans of the cases, random inputs, and pictures that are compared with their tables.
+//! the plans of the cases, listings with their answers, random inputs, and pictures that are compared with
+//! their tables.
 
 pub mod cases;
 pub mod drawing;
 pub mod heads;
+pub mod listing_readings;
+pub mod listings;
+pub mod tally;
+pub mod telling;
+pub mod telling_listings;
 
 use generate::frames::{fewest_entries, with_frames};
 use generate::{plan, Kind, Random};

@@ -1,39 +1,22 @@
 //! Where a refused text fails: what `where/where.awk` says is compared with the reference.
 
 use std::path::{Path, PathBuf};
-use std::process::{Command, Output};
+use std::process::Output;
 
 use generate::broken::{broken, broken_twice, NUMBERS};
 use generate::texts::{damaged_texts, of_length};
 use generate::{Kind, Random};
 use reference::text::{read_any_length, LONGEST_TEXT};
 use reference::{failing, print, Failing};
-use suite::{for_plans, s, S};
+use suite::telling::{self, awks, begin_of, head, number_behind, one_by_one, WIDEST};
+use suite::{for_plans, s, S, S_LISTING};
 
-/// The columns of a line that are shown.
-const WIDEST: usize = 120;
+/// The scripts that say where a plan text fails.
+const SCRIPTS: [&str; 2] = ["text.awk", "where.awk"];
 
 /// The folder for the texts of a test.
 fn folder(name: &str) -> PathBuf {
-    let folder = Path::new(env!("CARGO_TARGET_TMPDIR")).join(name);
-    std::fs::create_dir_all(&folder).expect("a folder for the texts");
-    folder
-}
-
-/// What is said of the files of these names, as texts refused with this number; `awk` is the
-/// command with its first words.
-fn run(awk: &[&str], folder: &Path, number: u8, names: &[String]) -> Output {
-    let script = PathBuf::from(env!("CARGO_MANIFEST_DIR")).join("../../where/where.awk");
-    let output = Command::new(awk[0])
-        .args(&awk[1..])
-        .args(["-v", &format!("refused={number}"), "-f"])
-        .arg(script)
-        .args(names)
-        .current_dir(folder)
-        .output()
-        .expect("awk");
-    assert!(output.status.success());
-    output
+    telling::folder(env!("CARGO_TARGET_TMPDIR"), name)
 }
 
 /// What is said of each of these texts, refused with this number; `name` keeps the files of tests
@@ -44,60 +27,14 @@ fn told_by(awk: &[&str], name: &str, number: u8, texts: &[&[u8]]) -> Vec<String>
     for (name, text) in names.iter().zip(texts) {
         std::fs::write(folder.join(name), text).expect("a file for a text");
     }
-    let output = run(awk, &folder, number, &names);
-    assert_eq!(String::from_utf8_lossy(&output.stderr), "");
-    let said = String::from_utf8(output.stdout).expect("text");
-    let mut told: Vec<String> = Vec::new();
-    for line in said.lines() {
-        if line.starts_with("line ") {
-            told.push(String::new());
-        }
-        let last = told.last_mut().expect("a line with its number first");
-        *last += line;
-        *last += "\n";
-    }
+    let told = one_by_one(&run(awk, &folder, number, &names));
     assert_eq!(told.len(), texts.len(), "of some text nothing is said");
     told
 }
 
-/// The line of a text that begins at this byte, without its line feed, as it is shown.
-fn shown(text: &[u8], begin: usize) -> String {
-    let line: Vec<u8> = text[begin..]
-        .iter()
-        .copied()
-        .take_while(|&b| b != b'\n')
-        .collect();
-    let mut shown = String::new();
-    for &byte in line.iter().take(WIDEST) {
-        match byte {
-            b' '..=b'~' if byte != b'\\' => shown.push(char::from(byte)),
-            _ => shown += &format!("\\x{byte:02x}"),
-        }
-    }
-    if line.len() > WIDEST {
-        shown += " .. (cut here)";
-    }
-    shown
-}
-
-/// The byte at which a line begins, or the end of the text if there are fewer.
-fn begin_of(text: &[u8], line: usize) -> usize {
-    let lines = text.split_inclusive(|&b| b == b'\n');
-    lines.take(line - 1).map(<[u8]>::len).sum()
-}
-
-/// The head of what is said of a line.
-fn head(text: &[u8], line: usize) -> String {
-    let shown = shown(text, begin_of(text, line));
-    let blank = if shown.is_empty() { "" } else { " " };
-    format!("line {line}:{blank}{shown}\n")
-}
-
-/// The number that stands behind these words.
-fn number_behind(said: &str, words: &str) -> Option<usize> {
-    let (_, behind) = said.split_once(words)?;
-    let digits = behind.find(|c: char| !c.is_ascii_digit())?;
-    behind[..digits].parse().ok()
+/// What the scripts say of the files of these names, as texts refused with this number.
+fn run(awk: &[&str], folder: &Path, number: u8, names: &[String]) -> Output {
+    telling::run(awk, &SCRIPTS, folder, number, names)
 }
 
 /// Panics unless what is said of a text is so.
@@ -109,7 +46,7 @@ fn compare(text: &[u8], place: Failing, said: &str) {
     assert!(why.starts_with("  ") && why.ends_with('\n'), "{said}");
     let earlier = place
         .earlier
-        .map(|line| format!("  {}", self::head(text, line)));
+        .map(|line| format!("  {}", telling::head(text, line)));
     assert_eq!(why.contains("\n  line "), earlier.is_some(), "{said}");
     if let Some(earlier) = earlier {
         assert!(why.ends_with(&format!(":\n{earlier}")), "{earlier}{said}");
@@ -362,15 +299,8 @@ fn every_awk_says_the_same() {
         .filter(|text| failing(text).is_some_and(|f| f.number == 1))
         .collect();
     let said = told_by(&["awk"], "awks", 1, &texts);
-    let others: [&[&str]; 4] = [&["mawk"], &["gawk"], &["original-awk"], &["busybox", "awk"]];
-    for awk in others {
-        let found = Command::new(awk[0])
-            .args(&awk[1..])
-            .arg("BEGIN { exit }")
-            .output();
-        if found.is_ok_and(|output| output.status.success()) {
-            assert_eq!(told_by(awk, "awks", 1, &texts), said, "{awk:?}");
-        }
+    for awk in awks() {
+        assert_eq!(told_by(&awk, "awks", 1, &texts), said, "{awk:?}");
     }
 }
 
@@ -516,6 +446,22 @@ line 4: (slot (node 1) (bytes 2))
         "\
 line 5: (condition (process 0))
   a condition line cannot stand below an edge line
+  expected a line of this form, N a number of one to nine digits without a needless leading zero
+    (edge (from N) (to N) (bytes N) (when always)), or when (true N), or when (false N)
+",
+    );
+}
+
+/// A listing without the empty line before it.
+#[test]
+fn words_for_a_listing_behind_a_plan() {
+    says(
+        "a_listing_behind_a_plan",
+        &[S, S_LISTING].concat().into_bytes(),
+        "\
+line 13: (delay 34)
+  no line that may stand here begins so
+  a listing begins here; where it is to be checked, an empty line stands before it
   expected a line of this form, N a number of one to nine digits without a needless leading zero
     (edge (from N) (to N) (bytes N) (when always)), or when (true N), or when (false N)
 ",

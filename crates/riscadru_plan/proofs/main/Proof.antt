@@ -3,7 +3,7 @@
 use mathlib.Core.Path.{sym}
 use lib.Seq.{length-take-le}
 use borrow.Author.Needs.{needs}
-use Rattle.riscadru_plan.proofs.Within.{bytes-within}
+use Rattle.standard_input.proofs.Within.{bytes-within}
 use Rattle.riscadru_plan.proofs.main.Statement.{statement}
 use Rattle.riscadru_plan.proofs.main.Tie as tie
 

@@ -20,13 +20,13 @@ returns : tie.Need-returns
 unfolding field-at
 returns c = record { within = tt; same = rw (← told next (c .enum-told .given .1) (c .before .before .word .ensures) .same) }
 
-number-requires : tie.Need-number-requires
-number-requires c κs = told next (c .before .i .given .1) (c .before .before .before .word .ensures) .within
+number-to-requires : tie.Need-number-to-requires
+number-to-requires c κs = told next (c .before .i .given .1) (c .before .before .before .word .ensures) .within
 
 returns-2 : tie.Need-returns-2
 unfolding field-at
-returns-2 c = rw (← told next (c .before .before .i .given .1) (c .before .before .before .before .word .ensures) .same) (c .number .ensures)
+returns-2 c = rw (← told next (c .before .before .i .given .1) (c .before .before .before .before .word .ensures) .same) (c .number-to .ensures)
 
 pub field-spec : {M : Type 1} → statement M
 field-spec =
-    tie.close (tie.spec word-requires enum-known-i enum-told returns number-requires returns-2)
+    tie.close (tie.spec word-requires enum-known-i enum-told returns number-to-requires returns-2)

@@ -1,0 +1,4 @@
+pub mod FrameList
+pub mod Filling
+pub mod Stated
+pub mod Listing

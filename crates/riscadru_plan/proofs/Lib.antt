@@ -1,2 +1,0 @@
--- Laws of the planning program: Within (how many bytes were read).
-pub mod Within
