@@ -3,28 +3,24 @@
 -- passed lines, at most eight, at most 24 each.
 -- Assumes nothing.
 use mathlib.Core.Path.{_≡_, sym, ap, _∙_, subst}
-use mathlib.Core.Bool.{Bool, true, false, not}
-use mathlib.Core.Logic.{_⊎_, inl, inr}
+use mathlib.Core.Bool.{Bool, not}
 use mathlib.Core.List.{List, [], map, List·Memᴰ as In}
 use Prim.Native.Nat.{ℕ, _+_, _*_, _≤_, _<_}
 use native.Mathlib.Omega.{arith}
-use borrow.Author.Tests.{ltb-true, ltb-false}
-use lib.Dec.{ltb}
-use lib.ListN.{length, getD, length-map, List·getD-eq-default}
+use borrow.Author.Tests.{ltb-false}
+use lib.ListN.{length, length-map}
 use lib.Seq.{take-all}
 use Rattle.limits.specs.Limits.{LISTING}
-use Rattle.lists.specs.Lists.{keep, each, below}
-use Rattle.lists.proofs.Keep.{getD-upfrom}
+use Rattle.lists.specs.Lists.{keep, each}
 use Rattle.lists.proofs.Counts.{keep-short}
 use Rattle.lists.proofs.Order.{put-all-most}
 use Rattle.lists.proofs.Sums.{length-each}
-use Rattle.lists.proofs.Tests.{two}
 use Rattle.model.specs.Plan.{Lines, process}
 use Rattle.model.specs.Bus.{is-process, sender, row-node, row-bytes, slot-of}
 use Rattle.model.specs.Log.{Placed}
 use Rattle.model.specs.Planning.{bound}
 use Rattle.model.specs.Refusals.{nothing, plan-refusal}
-use Rattle.model.specs.Table.{Entry, Frame, made, result, frames, frame-of, frame-key, wider, plans, passed-by, entry-of, entry-words, frame-words}
+use Rattle.model.specs.Table.{Entry, Frame, made, result, frames, frame-of, frame-key, wider, entry-of, entry-words, frame-words}
 use Rattle.model.specs.Listing.{printed, plan-listing}
 use Rattle.text_grammar.proofs.Numbers.{decimal-length}
 use Rattle.laws.proofs.Bound.{bound-small}
@@ -32,7 +28,7 @@ use Rattle.laws.proofs.Entries.{final, Made, entries-in}
 use Rattle.laws.proofs.Frames.{frame-used}
 use Rattle.laws.proofs.Good.{Good, good}
 use Rattle.laws.proofs.History.{history}
-use Rattle.laws.proofs.Passed.{node-passed}
+use Rattle.laws.proofs.Passed.{counts-most}
 use Rattle.laws.proofs.Rows.{sender-in}
 use Rattle.laws.proofs.Rules.{Kept}
 use Rattle.laws.proofs.Safety.{planning-keeps}
@@ -87,17 +83,6 @@ module _ (p : Lines) (fine : plan-refusal p ≡ nothing) where
       let o : f .used ≤ 64 = omega (arith, q .1, u .4) in
       omega (arith, frame-length (f .tick) (f .node) (f .used), decimal-length 8 (f .tick) (omega arith), one-digit (f .node) (omega arith), decimal-length 1 (f .used) (omega arith))
 
-  -- the count of a node has at most five digits
-  count-most : (i : ℕ) → getD (result p .passed) i 0 < 100000
-  unfolding result
-  count-most i = at (two (ltb i (length (p .slots))))
-    where
-      at : (ltb i (length (p .slots)) ≡ true) ⊎ (ltb i (length (p .slots)) ≡ false) → getD (map (passed-by (plans p)) (below (length (p .slots)))) i 0 < 100000
-      at (inl e) = omega (arith, getD-upfrom (passed-by (plans p)) 0 (length (p .slots)) i 0 (ltb-true i (length (p .slots)) e), node-passed p fine (0 + i))
-      at (inr e) =
-          let l : length (p .slots) ≤ i = ltb-false i (length (p .slots)) e in
-          omega (arith, List·getD-eq-default (map (passed-by (plans p)) (below (length (p .slots)))) 0 {n = i} (omega (arith, counts-each p)))
-
   -- an entry is in one frame at most
   pub frames-few : length (result p .frames) ≤ length (result p .entries)
   unfolding result frames
@@ -132,7 +117,7 @@ module _ (p : Lines) (fine : plan-refusal p ≡ nothing) where
         entry-words-count es,
         frames-few,
         decimal-length 8 (result p .delay) (omega (arith, delay-most p fine)),
-        passed-most 4 0 cs (omega (arith, g .few-slots)) count-most,
+        passed-most 4 0 cs (omega (arith, g .few-slots)) (λ i. omega (arith, counts-most p fine i)),
         g .few-slots,
       )
 
