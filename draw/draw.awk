@@ -173,7 +173,7 @@ file == 1 && $1 == "edge" { sender[edges] = $3; edges++ }
 
 file == 2 && $1 == "refused" { refused = $2 }
 file == 2 && $1 == "delay" { delay = $2 }
-file == 2 && $1 == "passed" { passed = $2 }
+file == 2 && $1 == "passed" { passed = passed (passed == "" ? "" : ",") " " $4 " (node " $3 ")" }
 file == 2 && ($1 == "start" || $1 == "send" || $1 == "tell") {
     kind[entries] = $1
     row[entries] = $2
@@ -211,7 +211,7 @@ END {
     print "text { font-size: 12px; } text.name, text.mark, text.value { text-anchor: middle; } text.mark { font-size: 10px; fill: #666; } text.value { fill: #31a354; } text.title, text.top { font-weight: bold; } text.top { fill: #c00; }"
     print "</style>"
     print "<rect width=\"100%\" height=\"100%\" fill=\"white\"/>"
-    say(8, 20, "top", "worst delay " delay " (red line), passed over " passed (head > 0 ? ", head " head : ""))
+    say(8, 20, "top", "worst delay " delay " (red line), passed over" passed (head > 0 ? ", head " head : ""))
     for (c = first; c < first + count; c++)
         draw_panel(c, 84 + (c - first) * panel)
     print "</svg>"

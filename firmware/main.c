@@ -13,9 +13,10 @@
 /* The longest table that is read. One of more than 12,672 entries is never accepted. */
 #define MOST_TABLE (13000 * ENTRY_BYTES)
 
-/* The longest frame list and the totals that the planner is lent. */
+/* The longest frame list and the totals that the planner is lent: three words, and a count for each node. */
 #define MOST_FRAMES (2000 * 12)
-#define TOTALS 16
+#define MOST_NODES 8
+#define TOTALS (4 * (3 + MOST_NODES))
 
 /* One byte more than a text may have, so that a longer one is refused, and a NUL. */
 static uint8_t text[MOST_TEXT + 2];
@@ -24,7 +25,8 @@ static uint8_t frames[MOST_FRAMES];
 static uint8_t totals[TOTALS];
 
 static const char usage[] =
-    "usage: unit plan PLAN TABLE                      write the plan's start table, print its worst delay\n"
+    "usage: unit plan PLAN TABLE                      write the plan's start table, print its worst delay, and on\n"
+    "                                                 standard error whose slots are too short\n"
     "       unit check PLAN TABLE DELAY               check a table and the delay stated for it\n"
     "       unit run PLAN TABLE COMBINATION [TIME..]  run the panel and print what its units do\n"
     "\n"
@@ -116,7 +118,8 @@ static int plan_command(const char *plan_name, const char *table_name)
     if (!read_file(plan_name, text, MOST_TEXT + 1, &length)) {
         return REFUSED;
     }
-    /* The planner gives how many bytes of the table it wrote; the third of the four totals is the worst delay. */
+    /* The planner gives how many bytes of the table it wrote; the third of the totals is the worst delay, and behind
+     * it stand the pass-over counts of the nodes. */
     uint64_t answer = riscadru_plan_table(text, length, table, MOST_TABLE, frames, MOST_FRAMES, totals, TOTALS);
     if (refusal(answer) != 0) {
         return refused_with(refusal(answer));
@@ -125,6 +128,13 @@ static int plan_command(const char *plan_name, const char *table_name)
         return REFUSED;
     }
     printf("%" PRIu32 "\n", read_word(totals + 8));
+    for (size_t node = 0; node < MOST_NODES; node++) {
+        uint32_t count = read_word(totals + 12 + 4 * node);
+        if (count != 0) {
+            fprintf(stderr, "unit: the slot of node %zu is too short: over all combinations %" PRIu32
+                            " of them left a ready item waiting\n", node, count);
+        }
+    }
     return DONE;
 }
 

@@ -46,22 +46,30 @@ uint64_t riscadru_copy_plan(const uint8_t *text, size_t text_length, uint8_t *ou
  *
  * Answer: how many bytes of `table` were written. `table` then begins with the start table, five
  * words to an entry, `frames` with the frame list, three words to a frame, and `totals`, as far as
- * its bytes go, with four words: how many words the start table has, how many words the frame list
- * has, the worst delay and the pass-over count. All other bytes are as they were. Or a refusal, and
- * all lent bytes are as they were: 1, the text exceeds 16,384 bytes or is not of the form; 2 to 9,
- * the plan breaks that rule first; 10, the entries need more words than lent; 11, the frames need
- * more words than lent.
+ * its bytes go, with 3 words and one for each node of the plan:
+ *
+ *   word 0      how many words the start table has
+ *   word 1      how many words the frame list has
+ *   word 2      the worst delay
+ *   word 3 + n  the pass-over count of node n: in how many of its slots, over all combinations, a ready
+ *               item of the node was not taken. Where it is not 0, the slot of node n is too short.
+ *
+ * A plan has at most 8 nodes, as many as slots and numbered from 0, so that 44 bytes suffice. Nodes stand in
+ * the order of their numbers, whatever the order of the slots. All other bytes are as they were. Or a
+ * refusal, and all lent bytes are as they were: 1, the text exceeds 16,384 bytes or is not of the form; 2
+ * to 9, the plan breaks that rule first; 10, the entries need more words than lent; 11, the frames need more
+ * words than lent.
  */
 uint64_t riscadru_plan_table(const uint8_t *text, size_t text_length, uint8_t *table, size_t table_length,
                              uint8_t *frames, size_t frames_length, uint8_t *totals, size_t totals_length);
 
 /* Reads a plan text, plans it, and writes its listing, as the planning program prints it, to the front
- * of `out`: worst delay, pass-over count, start table and frame list.
+ * of `out`: worst delay, the pass-over count of each node, start table and frame list.
  *
  * Answer: how many bytes were written, and `out` is otherwise as it was. Or the first refusal that
  * applies, and `out` is as it was: 1, the text exceeds 16,384 bytes or is not of the form; 2 to 9, the
  * plan breaks that rule first; 10, the start table has more than 3,000 entries, or the listing needs more
- * bytes than lent; 11, the frame list has more than 2,000 frames. 426,100 bytes suffice for every listing
+ * bytes than lent; 11, the frame list has more than 2,000 frames. 426,210 bytes suffice for every listing
  * of at most 3,000 entries.
  */
 uint64_t riscadru_plan_listing(const uint8_t *text, size_t text_length, uint8_t *out, size_t out_length);
@@ -81,17 +89,18 @@ uint64_t riscadru_check_table(const uint8_t *text, size_t text_length, const uin
 
 /* Checks a printed table: a listing as the planning program prints it, whoever wrote it.
  *
- * `listing` may be any bytes. It is of its form if it has a delay line, a passed line, then the lines of
- * entries (start, send, tell, rows in order, the lines of one row in any order), then the lines of frames,
- * and nothing else: single spaces, each line ended by a line feed, numbers of one to nine digits, numbers of
- * processes, edges and conditions that the plan has, the conditions of a `when` ascending, at most 3,000
- * entries and 2,000 frames. Its entries are read in the order in which they stand.
+ * `listing` may be any bytes. It is of its form if it has a delay line, a passed line for each node of the
+ * plan, `(passed (node 0) 0)`, in the order of their numbers, then the lines of entries (start, send, tell,
+ * rows in order, the lines of one row in any order), then the lines of frames, and nothing else: single
+ * spaces, each line ended by a line feed, numbers of one to nine digits, numbers of processes, edges and
+ * conditions that the plan has, the conditions of a `when` ascending, at most 3,000 entries and 2,000 frames.
+ * Its entries are read in the order in which they stand.
  *
  * Answer: 0, the listing is of its form, its table is sound for the plan and the delay of its delay line, its
- * frames are those that its entries give, and its passed line is the plan's pass-over count. Or the first
+ * frames are those that its entries give, and its passed lines are the plan's pass-over counts. Or the first
  * refusal that applies: 1, the text exceeds 16,384 bytes or is not of the form; 2 to 9, the plan breaks that
  * rule first; 21, the listing is not of its form; 12 to 20, its table breaks that rule first; 22, its frames
- * or its passed line are not those that they should be.
+ * or its passed lines are not those that they should be.
  */
 uint64_t riscadru_check_listing(const uint8_t *text, size_t text_length, const uint8_t *listing, size_t listing_length);
 

@@ -20,6 +20,7 @@ function take_plan_line(kind, part, words) {
         offset[part[2]] = round
         room[part[2]] = part[3]
         round += lasts[part[2]]
+        nodes++
     } else if (kind == "process") {
         node[processes] = part[2]
         ticks[processes] = part[3]
@@ -40,7 +41,7 @@ function read_plan(file,    n, part) {
     longest = 16384
     if (!read_text(file))
         return 0
-    round = processes = conditions = edges = 0
+    round = nodes = processes = conditions = edges = 0
     for (n = 1; n <= feeds; n++) {
         split(line[n], part, /[^0-9]+/)
         match(line[n], /[a-z]+/)
@@ -54,6 +55,9 @@ function read_plan(file,    n, part) {
 
 # what is wrong with a number of a line of kind k that is otherwise of the form, nothing if nothing is
 function wrong_numbers(k,    most_of, i) {
+    if (k == passed)
+        return figure[1] == counts ? "" : figure[1] < nodes ? passed_line() " must stand here" : \
+            "there is no node " figure[1] ": " lines_of(k)
     if (k < start || k == frame)
         return k == frame && frames == most_frames ? "a listing has at most " most_frames " frame lines" : ""
     if (entries == most_entries)
@@ -72,18 +76,26 @@ function wrong_numbers(k,    most_of, i) {
     return ""
 }
 
-# how many processes, edges or conditions the plan has
+# how many nodes, processes, edges or conditions the plan has
 function lines_of(k,    count) {
-    count = k == start ? processes : k == start + 1 ? edges : conditions
-    return "the number of " thing[k] " lines in the plan is " count ", and they are numbered from 0"
+    count = k == passed ? nodes : k == start ? processes : k == start + 1 ? edges : conditions
+    return "the number of " (k == passed ? "slot" : thing[k]) " lines in the plan is " count \
+        ", and " (k == passed ? "the nodes" : "they") " are numbered from 0"
+}
+
+# the passed line that comes next
+function passed_line() {
+    return "the passed line of node " counts
 }
 
 # keeps a line of kind k, which is line n
 function take_line(n, k,    i, words) {
     if (k == frame)
         stated[++frames] = figure[1] " " figure[2] " " figure[3]
-    if (k < start)
-        total[k] = figure[1]
+    if (k == passed)
+        counts++
+    else if (k < start)
+        delay = figure[1]
     if (k < start || k == frame)
         return
     entry_line[++entries] = n
@@ -100,7 +112,7 @@ function take_line(n, k,    i, words) {
 # Reads the lines of the form, up to the first that is not or the end; `good` is how many there are, and `why` says
 # what is wrong with the numbers of the line behind them, nothing if nothing is.
 function read_listing(    n, comes) {
-    good = entries = frames = last_kind = 0
+    good = counts = entries = frames = last_kind = 0
     least = most = 1
     for (n = 1; ; n++) {
         comes = line_comes(n)
@@ -109,8 +121,8 @@ function read_listing(    n, comes) {
             return
         good = n
         take_line(n, found)
-        least = found < start ? found + 1 : found
-        most = found == 1 ? 2 : kinds
+        least = found >= start ? found : counts < nodes ? passed : start
+        most = least == passed ? passed : kinds
     }
 }
 
@@ -124,7 +136,9 @@ function wrong_kind() {
     if (!found)
         return ""
     if (least < start)
-        return "the " name[least] " line must stand " (least == 1 ? "first" : "here")
+        return least == 1 ? "the delay line must stand first" : passed_line() " must stand here"
+    if (found == passed && least == start)
+        return "the passed lines of all nodes of the plan, as many as " nodes ", stand above"
     return "a " name[found] " line cannot stand below a " name[least == start ? least - 1 : least] " line"
 }
 
@@ -141,7 +155,8 @@ function form(    n) {
     } else if (n > feeds && text == "") {
         if (least >= start)
             return
-        fail(n, size ? "the listing ends, and the " name[least] " line is missing" : "the listing is empty")
+        fail(n, !size ? "the listing is empty" : "the listing ends, and " \
+            (least == passed ? passed_line() : "the delay line") " is missing")
         if (!size && above)
             say("the listing stands behind the plan, with an empty line between them")
         say_kinds()
@@ -159,17 +174,18 @@ BEGIN {
     most_entries = 3000
     most_frames = 2000
     kinds = split("delay passed start send tell frame", name, " ")
-    split("- - process edge condition -", thing, " ")
+    split("- node process edge condition -", thing, " ")
+    passed = 2
     start = 3
     frame = kinds
     parts_of[1] = "( delay _ N )"
-    parts_of[2] = "( passed _ N )"
+    parts_of[2] = "( passed _ ( node _ N ) _ N )"
     parts_of[3] = "( start _ N _ ( when column _ ( at _ N ) )"
     parts_of[4] = "( send _ N _ ( when column _ ( at _ N ) _ ( place _ N ) )"
     parts_of[5] = "( tell _ N _ ( when column _ ( at _ N ) _ ( place _ N ) )"
     parts_of[6] = "( frame _ N _ ( node _ N ) _ ( bytes _ N ) )"
     form_of[1] = "(delay N)"
-    form_of[2] = "(passed N)"
+    form_of[2] = "(passed (node N) N)"
     form_of[3] = "(start N (when) (at N)), or with conditions: (when (true N) (false N) ..)"
     form_of[4] = "(send N (when) (at N) (place N)), or with conditions: (when (true N) (false N) ..)"
     form_of[5] = "(tell N (when) (at N) (place N)), or with conditions: (when (true N) (false N) ..)"
@@ -177,7 +193,7 @@ BEGIN {
     for (a = 1; a + 1 < ARGC; a += 2) {
         if (refused < 13 || refused > 22 || !read_plan(ARGV[a]))
             continue
-        longest = 439037 # the lines of a listing of the form have no more bytes
+        longest = 439242 # the lines of a listing of the form have no more bytes
         if (!read_text(ARGV[a + 1]))
             continue
         read_listing()

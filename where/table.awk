@@ -283,11 +283,11 @@ function wrong_delay(    c, p, greatest, words) {
                 words = combination_words(c) ", process " p " ends at tick " greatest
             }
     }
-    if (greatest != total[1])
+    if (greatest != delay)
         fail(1, "the greatest delay is " greatest ": " words)
 }
 
-# ---- 22: the frames and the passed line ----
+# ---- 22: the frames and the passed lines ----
 
 # the frames that the entries give, in the order of their ticks
 function give_frames(    i, j, last, t) {
@@ -310,7 +310,7 @@ function give_frames(    i, j, last, t) {
     }
 }
 
-# 22: the first frame line that is not the one that the entries give there, or else the passed line
+# 22: the first frame line that is not the one that the entries give there, or else the passed lines
 function wrong_frames(    f, n, t, part, wanted_frame) {
     give_frames()
     for (f = 1; f <= given || f <= frames; f++) {
@@ -325,6 +325,7 @@ function wrong_frames(    f, n, t, part, wanted_frame) {
         return fail(n, f > frames ? "the listing ends, and the entries give another frame: " wanted_frame : \
             "the frame that the entries give here is " wanted_frame)
     }
-    fail(2, "the frame lines are those that the entries give, so that this is not the plan's pass-over count")
-    say("./riscadru plan prints that count")
+    fail(2, "the frame lines are those that the entries give, so that this count, or one in a passed line below, is " \
+        "not the plan's")
+    say("./riscadru plan prints the counts of all nodes")
 }

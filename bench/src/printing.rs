@@ -10,8 +10,9 @@ pub const PROGRAM_WORDS: usize = 3_000 * 5;
 pub const PROGRAM_FRAME_WORDS: usize = 2_000 * 3;
 
 /// The bytes that the longest listing takes. The longest entry has six values and takes 104 bytes,
-/// the longest frame 38; the first two lines are far shorter than 100.
-pub const LONGEST_LISTING: usize = 100 + 3_000 * 104 + 2_000 * 38;
+/// the longest frame 38; the delay line and eight passed lines take less than 350, whatever their
+/// numbers are.
+pub const LONGEST_LISTING: usize = 350 + 3_000 * 104 + 2_000 * 38;
 
 /// The bytes by which a store may reach past the end of the listing.
 const PAST_THE_END: usize = 64;
@@ -55,9 +56,8 @@ impl Printer {
         self.print(|pen| {
             pen.put(b"(delay ", 7);
             pen.put_great(outcome.delay);
-            pen.put(b")\n(passed ", 10);
-            pen.put_great(outcome.passed_by_node.iter().sum());
             pen.put(b")\n", 2);
+            pen.put_passed(&outcome.passed_by_node[..lines.slots.len()]);
             pen.put_entries(lines, &words[..outcome.words]);
             pen.put_frames(&frame_words[..outcome.frame_words]);
         })
@@ -88,6 +88,17 @@ impl Pen<'_> {
     fn put<const LENGTH: usize>(&mut self, bytes: &[u8; LENGTH], count: usize) {
         self.bytes[self.filled..self.filled + LENGTH].copy_from_slice(bytes);
         self.filled += count;
+    }
+
+    /// Puts the passed lines of the nodes that these are the counts of.
+    fn put_passed(&mut self, counts: &[u64]) {
+        for (node, &count) in counts.iter().enumerate() {
+            self.put(b"(passed (node ", 14);
+            self.put_number(node as u32);
+            self.put(b") ", 2);
+            self.put_great(count);
+            self.put(b")\n", 2);
+        }
     }
 
     /// Puts a number of any size.
@@ -316,19 +327,21 @@ mod tests {
             when: reference::When::Always,
         };
         lines.edges.resize(128, edge);
+        let slot = reference::Slot { node: 0, bytes: 1 };
+        lines.slots.resize(8, slot);
         let condition = reference::Condition { process: 0 };
         lines.conditions.resize(6, condition);
         let entry = [127, 63, 0, 999_999_999, 63];
         let outcome = Outcome {
             words: PROGRAM_WORDS,
             frame_words: PROGRAM_FRAME_WORDS,
-            passed_by_node: [u64::MAX / 8; 8],
+            passed_by_node: [u64::MAX; 8],
             delay: u64::MAX,
         };
         let words = entry.repeat(3_000);
         let frames = [999_999_999, 7, 64].repeat(2_000);
         let printed = printer.listing(&lines, &outcome, &words, &frames).to_vec();
-        let passed = outcome.passed_by_node.iter().sum();
+        let passed = &outcome.passed_by_node;
         let listing = reference::listing(&lines, outcome.delay, passed, &words, &frames);
         assert!(printed == listing);
         assert!(printed.len() <= LONGEST_LISTING && printed.len() > LONGEST_LISTING - 100);

@@ -333,7 +333,7 @@ mod ours {
         let mut table = vec![0; PROGRAM_WORDS * 4];
         let mut frames = vec![0; PROGRAM_FRAME_WORDS * 4];
         let go = move |input: &Input| {
-            let mut totals = [0; 16];
+            let mut totals = [0; 44];
             black_box(plan_table(
                 &input.text,
                 &mut table,
@@ -383,20 +383,19 @@ mod ours {
         assert_eq!(answers, [0, u64::MAX - 21]);
         let mut table = vec![0; PROGRAM_WORDS * 4];
         let mut frames = vec![0; PROGRAM_FRAME_WORDS * 4];
-        let mut totals = [0; 16];
+        let mut totals = [0; 44];
         let answer = plan_table(&input.text, &mut table, &mut frames, &mut totals);
         let outcome = &input.outcome;
         assert_eq!(answer, outcome.words as u64 * 4);
         assert!(table.starts_with(&bytes(&input.words)));
         assert!(frames.starts_with(&bytes(&input.frame_words)));
-        let passed: u64 = outcome.passed_by_node.iter().sum();
-        let four = [
+        let mut numbers = vec![
             outcome.words as u32,
             outcome.frame_words as u32,
             outcome.delay as u32,
-            passed as u32,
         ];
-        assert_eq!(totals[..], bytes(&four));
+        numbers.extend(outcome.passed_by_node.map(|count| count as u32));
+        assert_eq!(totals[..], bytes(&numbers));
         let mut out = vec![0; LONGEST_LISTING];
         let listing = reference::list_plan(&input.text, out.len()).expect("a listing");
         assert_eq!(plan_listing(&input.text, &mut out), listing.len() as u64);

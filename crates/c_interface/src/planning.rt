@@ -34,10 +34,10 @@ fn put(p: Put) -> u64
 }
 
 // Reads a plan text and plans it: the start table goes to the front of `table`, the frame list to the front of
-// `frames`, each as words of four bytes, the lowest first, and four words, as far as the bytes go, to the front of
-// `totals`: how many words the table has, how many the frame list has, the worst delay and the pass-over count. How
-// many bytes of `table` were written; or a refusal, 1 to 11, as 2^64 - 1 less its number, which leaves all lent bytes
-// unchanged.
+// `frames`, each as words of four bytes, the lowest first, and to the front of `totals`, as far as the bytes go, more
+// words: how many words the table has, how many the frame list has, the worst delay, and the pass-over count of each
+// node, in node order. How many bytes of `table` were written; or a refusal, 1 to 11, as 2^64 - 1 less its number,
+// which leaves all lent bytes unchanged.
 #[no_mangle]
 pub extern "C" fn riscadru_plan_table(
     text: &[u8],

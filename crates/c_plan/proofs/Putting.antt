@@ -2,10 +2,11 @@
 -- the table, of the frame list and the totals.
 -- Assumes nothing.
 use mathlib.Core.Path.{_≡_, refl, sym, ap, _∙_}
-use mathlib.Core.List.{List, [], _∷_}
+use mathlib.Core.List.{List, _∷_}
 use Prim.Native.Nat.{ℕ, _*_}
 use lib.ListN.{length, take}
 use Rattle.lists.specs.Front.{front}
+use Rattle.model.specs.Plan.{Lines}
 use Rattle.model.specs.Table.{Answer, turned-down, made}
 use Rattle.planner_table.specs.declared.Made.{Made}
 use Rattle.planner_table.specs.declared.Planned.the-variants as answer
@@ -36,13 +37,14 @@ pub refusal-put : (a : Answer) (n : ℕ) (table frames totals : List ℕ) → an
 unfolding put-of
 refusal-put a n table frames totals e = (rw (turned a n e), filled-so (sym (turned a n e)) (nothing-filled n table frames totals))
 
-module _ (a : Answer) (m : Made) (words framewords words-now framewords-now : List ℕ) (s : Stands a m words framewords words-now framewords-now)
-    (table frames totals table-now frames-now totals-now : List ℕ) where
-  pub made-put : Stored m words-now framewords-now table frames totals table-now frames-now totals-now →
+module _ (p : Lines) (a : Answer) (m : Made) (words framewords passed words-now framewords-now passed-now : List ℕ) (s : Stands p a m words framewords passed words-now framewords-now passed-now)
+    (nodes : ℕ) (each : nodes ≡ length (p .slots)) (table frames totals table-now frames-now totals-now : List ℕ) where
+  pub made-put : Stored m words-now framewords-now (take nodes passed-now) table frames totals table-now frames-now totals-now →
       (Wrote (4 * m .words) ≡ put-of a) × Filled a table frames totals table-now frames-now totals-now
   unfolding put-of table-bytes-after frame-bytes-after totals-after totals-of
   made-put l =
-      let w = s .was in (
+      let w = s .was in
+      let counts : take nodes passed-now ≡ w .result .passed = ap (λ (n : ℕ). take n passed-now) each ∙ s .counts-words in (
         (λ i. Wrote (4 * w .words i)) ∙ ap put-of (sym (w .is-made)),
         filled-so {a = made (w .result)} (sym (w .is-made))
             (record {
@@ -50,6 +52,6 @@ module _ (a : Answer) (m : Made) (words framewords words-now framewords-now : Li
               frame-bytes = l .frame-bytes ∙ ap (λ (ws : List ℕ). front (bytes-of ws) frames) (s .frames-words);
               total-bytes =
                   l .total-bytes
-                  ∙ (λ i. front (take (length totals) (bytes-of (w .words i ∷ w .framewords i ∷ w .delay i ∷ w .passed i ∷ []))) totals);
+                  ∙ (λ i. front (take (length totals) (bytes-of (w .words i ∷ w .framewords i ∷ w .delay i ∷ counts i))) totals);
             }),
       )

@@ -3,9 +3,8 @@
 -- Assumes nothing.
 use Prim.Native.Nat.{ℕ, _*_}
 use mathlib.Core.Path.{_≡_}
-use mathlib.Core.List.{List, [], _∷_}
+use mathlib.Core.List.{List, _∷_}
 use lib.ListN.{length, take}
-use Rattle.lists.specs.Lists.{sum}
 use Rattle.lists.specs.Front.{front}
 use Rattle.model.specs.Table.{Answer, turned-down, made, Result, entry-words, frame-words}
 use Rattle.c_words.specs.Bytes.{bytes-of}
@@ -17,9 +16,10 @@ unfoldable pub put-of : Answer → Put
 put-of (turned-down n) = Refused n
 put-of (made r) = Wrote (4 * length (entry-words (r .entries)))
 
--- the four totals: the words of the table and of the frame list, the worst delay, and the pass-over count
+-- the totals: the words of the table and of the frame list, the worst delay, and the pass-over count of each node, in
+-- node order
 unfoldable pub totals-of : Result → List ℕ
-totals-of r = length (entry-words (r .entries)) ∷ length (frame-words (r .frames)) ∷ r .delay ∷ sum (r .passed) ∷ []
+totals-of r = length (entry-words (r .entries)) ∷ length (frame-words (r .frames)) ∷ r .delay ∷ r .passed
 
 -- what the lent bytes hold afterwards
 unfoldable pub table-bytes-after : Answer → List ℕ → List ℕ

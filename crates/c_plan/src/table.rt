@@ -2,6 +2,7 @@
 // bytes a word, the lowest first.
 use crate::stored::put_planned_words;
 use arrays::lesser_usize;
+use arrays::no_counts;
 use c_words::entry_words;
 use c_words::how_many;
 use limits::FRAMEWORDS;
@@ -31,7 +32,8 @@ fn frame_words() -> [u32; FRAMEWORDS]
     [0u32; FRAMEWORDS]
 }
 
-// Plans a plan into lent words, and puts the table, the frame list and the totals as bytes to the front of lent bytes.
+// Plans a plan into lent words, and puts the table, the frame list and the totals, as many as the plan has, as bytes to
+// the front of lent bytes.
 fn put_planned(
     p: Plan,
     words: &mut [u32],
@@ -48,20 +50,30 @@ fn put_planned(
         (length (now (framewords .entry)))) (now (table .entry)) (now (frames .entry)) (now (totals .entry))
         (now (table .exit)) (now (frames .exit)) (now (totals .exit)) ⌝ }
 {
-    let planned = plan_table(p, words, framewords);
+    let mut passed = no_counts();
+    let nodes = p.slots;
+    let planned = plan_table(p, words, framewords, &mut passed);
     match planned {
         Planned::Refused(n) => Put::Refused(n),
         Planned::Made(m) => {
-            put_planned_words(m, words, framewords, table, frames, totals);
+            put_planned_words(
+                m,
+                words,
+                framewords,
+                &passed[..nodes],
+                table,
+                frames,
+                totals,
+            );
             Put::Wrote(4 * m.words)
         }
     }
 }
 
 // Plans a plan, and puts the start table to the front of `table`, the frame list to the front of `frames`, each as
-// words of four bytes, the lowest first, and four words, as far as the bytes go, to the front of `totals`: how many
-// words the table has, how many the frame list has, the worst delay and the pass-over count. How many bytes of `table`
-// were written; or a refusal, 2 to 11, which leaves all lent bytes unchanged.
+// words of four bytes, the lowest first, and to the front of `totals`, as far as the bytes go, more words: how many
+// words the table has, how many the frame list has, the worst delay, and the pass-over count of each node, in node
+// order. How many bytes of `table` were written; or a refusal, 2 to 11, which leaves all lent bytes unchanged.
 pub fn put_plan(p: Plan, table: &mut [u8], frames: &mut [u8], totals: &mut [u8]) -> Put
     ensures answer { λ r. ⌜ r ≡ put-of (plan-answer (lines p) (length (now (table .entry)) / 4)
         (length (now (frames .entry)) / 4)) ⌝ }

@@ -2,14 +2,16 @@
 -- Assumes nothing.
 use mathlib.Core.Path.{_≡_, refl, sym, ap, _∙_}
 use mathlib.Core.List.{List, [], _∷_, _++_, append-nil}
-use Prim.Native.Nat.{ℕ, suc, _+_, _*_, _/_, _%_, _<_, _^_}
+use Prim.Native.Nat.{ℕ, suc, _+_, _*_, _/_, _%_, _≤_, _<_, _^_}
 use native.Mathlib.Nat.{div-div-eq-div-mul, mod-eq-of-lt}
 use native.Mathlib.Omega.{arith}
-use lib.ListN.{length, getD, drop}
+use lib.ListN.{length, getD, take, drop, length-take, List·getD-append}
+use lib.Seq.{getD-take}
 use Rattle.lists.specs.Front.{front}
+use Rattle.lists.proofs.Front.{front-length}
 use Rattle.model.specs.Firmware.{words-of}
 use Rattle.c_words.specs.Bytes.{word-bytes, bytes-of}
-use Rattle.c_words.proofs.Reading.{words-drop}
+use Rattle.c_words.proofs.Reading.{words-drop, words-count, words-at}
 use Rattle.c_words.proofs.Writing.{bytes-count}
 
 -- numbers that words of 32 bits hold
@@ -57,3 +59,25 @@ words-front words lent s =
     words-then words (drop (length (bytes-of words)) lent) s
     ∙ ap (λ (n : ℕ). words ++ words-of (drop n lent)) (bytes-count words)
     ∙ ap (λ (r : List ℕ). words ++ r) (words-drop (length words) lent)
+
+-- words put to the front of lent bytes as far as these go: each that finds room stands there
+module _ (words lent : List ℕ) (small : Words words) (k : ℕ) (there : k < length words) (room : k * 4 + 4 ≤ length lent) where
+  abbrev put : List ℕ
+  put = take (length lent) (bytes-of words)
+
+  abbrev after : List ℕ
+  after = front put lent
+
+  byte-there : (j : ℕ) → j < k * 4 + 4 → getD after j 0 ≡ getD (bytes-of words) j 0
+  unfolding front
+  byte-there j l =
+      List·getD-append put (drop (length put) lent) 0 j (omega (arith, length-take (length lent) (bytes-of words), bytes-count words))
+      ∙ getD-take (length lent) (bytes-of words) j 0 (omega arith)
+
+  pub word-there : getD (words-of after) k 0 ≡ getD words k 0
+  word-there =
+      let long : length after ≡ length lent = front-length put lent (omega (arith, length-take (length lent) (bytes-of words))) in
+      words-at after k (omega (arith, words-count after))
+      ∙ (λ i. byte-there (k * 4) (omega arith) i + 256 * byte-there (k * 4 + 1) (omega arith) i + 65536 * byte-there (k * 4 + 2) (omega arith) i + 16777216 * byte-there (k * 4 + 3) (omega arith) i)
+      ∙ sym (words-at (bytes-of words) k (omega (arith, words-count (bytes-of words), bytes-count words)))
+      ∙ ap (λ (ws : List ℕ). getD ws k 0) (ap words-of (sym (append-nil (bytes-of words))) ∙ words-back words [] small (omega arith))

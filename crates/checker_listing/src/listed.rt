@@ -1,5 +1,6 @@
 // A listing text checked for a plan in which refusals 2 to 9 find nothing: 21, then 12 to 20, then 22.
 use crate::stated::check_stated;
+use arrays::no_counts;
 use checker_table::Checked;
 use limits::PRINTEDFRAMEWORDS;
 use limits::PRINTEDWORDS;
@@ -20,13 +21,23 @@ fn check_read(p: Plan, listing: &[u8], table: &mut [u32], frames: &mut [u32]) ->
         ∗ ⌜ (PRINTEDWORDS ≤ length (now table)) × (PRINTEDFRAMEWORDS ≤ length (now frames)) ⌝ }
     ensures { λ r. ⌜ Checks (lines p) (now (listing .entry)) r ⌝ }
 {
-    let read = read_listing(listing, p.processes, p.edges, p.conditions, table, frames);
+    let mut passed = no_counts();
+    let read = read_listing(
+        listing,
+        p.slots,
+        p.processes,
+        p.edges,
+        p.conditions,
+        table,
+        frames,
+        &mut passed,
+    );
     match read {
         ListingRead::Refused(n) => Checked::Refused(n),
         ListingRead::Stated(s) => {
             let words = s.words;
             let framewords = s.framewords;
-            check_stated(p, &table[..words], &frames[..framewords], s.delay, s.passed)
+            check_stated(p, &table[..words], &frames[..framewords], &passed, s.delay)
         }
     }
 }

@@ -58,13 +58,14 @@ pub write-plan-called : (p : Plan) (out out-now : List ℕ) (r : Written) → Wr
 write-plan-called p out out-now r e =
     calls.write-plan (record { lifetimes = ([], tt); handed = (p, (lent out, tt)); result = r; ended = (p, (lent out-now, tt)); learnt = (e .0, e .1) })
 
-pub plan-table-called : (p : Plan) (table frames table-now frames-now : List ℕ) (r : Planned) → Plan-table-said p table frames table-now frames-now r → calls.Plan-table p table frames table-now frames-now r
-plan-table-called p table frames table-now frames-now r e =
-    calls.plan-table (record { lifetimes = ([], ([], tt)); handed = (p, (lent table, (lent frames, tt))); result = r; ended = (p, (lent table-now, (lent frames-now, tt))); learnt = (e .0, (e .1, e .2)) })
+pub plan-table-called : (p : Plan) (table frames passed table-now frames-now passed-now : List ℕ) (r : Planned) → Plan-table-said p table frames passed table-now frames-now passed-now r →
+    calls.Plan-table p table frames passed table-now frames-now passed-now r
+plan-table-called p table frames passed table-now frames-now passed-now r e =
+    calls.plan-table (record { lifetimes = ([], ([], ([], tt))); handed = (p, (lent table, (lent frames, (lent passed, tt)))); result = r; ended = (p, (lent table-now, (lent frames-now, (lent passed-now, tt)))); learnt = (e .0, (e .1, (e .2, e .3))) })
 
-pub write-listing-called : (p : Plan) (delay passed : ℕ) (table frames out out-now : List ℕ) (r : Listed) → Write-listing-said p delay passed table frames out out-now r → calls.Write-listing p delay passed table frames out out-now r
+pub write-listing-called : (p : Plan) (delay : ℕ) (passed table frames out out-now : List ℕ) (r : Listed) → Write-listing-said p delay passed table frames out out-now r → calls.Write-listing p delay passed table frames out out-now r
 write-listing-called p delay passed table frames out out-now r e =
-    calls.write-listing (record { lifetimes = ([], ([], tt)); handed = (p, (delay, (passed, (lent table, (lent frames, (lent out, tt)))))); result = r; ended = (p, (delay, (passed, (lent table, (lent frames, (lent out-now, tt)))))); learnt = (e .0, e .1) })
+    calls.write-listing (record { lifetimes = ([], ([], tt)); handed = (p, (delay, (lent passed, (lent table, (lent frames, (lent out, tt)))))); result = r; ended = (p, (delay, (lent passed, (lent table, (lent frames, (lent out-now, tt)))))); learnt = (e .0, e .1) })
 
 pub write-refusal-called : (number : ℕ) (out out-now : List ℕ) (r : Listed) → Write-refusal-said number out out-now r → calls.Write-refusal number out out-now r
 write-refusal-called number out out-now r e =

@@ -7,7 +7,7 @@ use mathlib.Core.List.{List}
 use lib.ListN.{length}
 use Rattle.model.specs.Refusals.{plan-refusal}
 use Rattle.model.specs.Text.{Answers-text, write-plan, bytes-after}
-use Rattle.model.specs.Table.{plan-answer, table-after, frames-after}
+use Rattle.model.specs.Table.{plan-answer, table-after, frames-after, counts-after}
 use Rattle.model.specs.Listing.{words-listing, refused-line}
 use Rattle.model.specs.Checking.{check}
 use Rattle.model.specs.Lookup.{lookup, row-start, row-length, row-part}
@@ -81,22 +81,24 @@ pub write-plan-says : {p : Plan} {out out-now : List ℕ} {r : Written} → call
 write-plan-says (calls.write-plan c) = (c .learnt .0, c .learnt .1)
 
 -- what the contract of `planner::plan_table` says
-abbrev pub Plan-table-said : Plan → (table frames table-now frames-now : List ℕ) → Planned → Type 0
-Plan-table-said p table frames table-now frames-now r =
+abbrev pub Plan-table-said : Plan → (table frames passed table-now frames-now passed-now : List ℕ) → Planned → Type 0
+Plan-table-said p table frames passed table-now frames-now passed-now r =
     (r ≡ planner.answer-of (plan-answer (lines p) (length table) (length frames)))
     × (table-now ≡ table-after (plan-answer (lines p) (length table) (length frames)) table)
     × (frames-now ≡ frames-after (plan-answer (lines p) (length table) (length frames)) frames)
+    × (passed-now ≡ counts-after (plan-answer (lines p) (length table) (length frames)) passed)
 
-pub plan-table-says : {p : Plan} {table frames table-now frames-now : List ℕ} {r : Planned} → calls.Plan-table p table frames table-now frames-now r → Plan-table-said p table frames table-now frames-now r
-plan-table-says (calls.plan-table c) = (c .learnt .0, c .learnt .1 .0, c .learnt .1 .1)
+pub plan-table-says : {p : Plan} {table frames passed table-now frames-now passed-now : List ℕ} {r : Planned} → calls.Plan-table p table frames passed table-now frames-now passed-now r →
+    Plan-table-said p table frames passed table-now frames-now passed-now r
+plan-table-says (calls.plan-table c) = (c .learnt .0, c .learnt .1 .0, c .learnt .1 .1 .0, c .learnt .1 .1 .1)
 
 -- what the contract of `listing::write_listing` says
-abbrev pub Write-listing-said : Plan → (delay passed : ℕ) → (table frames out out-now : List ℕ) → Listed → Type 0
+abbrev pub Write-listing-said : Plan → (delay : ℕ) → (passed table frames out out-now : List ℕ) → Listed → Type 0
 Write-listing-said p delay passed table frames out out-now r =
     (r ≡ listing.answer-of (listing.written-of (length out) (words-listing (lines p) delay passed table frames)))
     × (out-now ≡ bytes-after (listing.written-of (length out) (words-listing (lines p) delay passed table frames)) out)
 
-pub write-listing-says : {p : Plan} {delay passed : ℕ} {table frames out out-now : List ℕ} {r : Listed} → calls.Write-listing p delay passed table frames out out-now r → Write-listing-said p delay passed table frames out out-now r
+pub write-listing-says : {p : Plan} {delay : ℕ} {passed table frames out out-now : List ℕ} {r : Listed} → calls.Write-listing p delay passed table frames out out-now r → Write-listing-said p delay passed table frames out out-now r
 write-listing-says (calls.write-listing c) = (c .learnt .0, c .learnt .1)
 
 -- what the contract of `listing::write_refusal` says

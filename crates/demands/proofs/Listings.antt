@@ -13,7 +13,7 @@ use Rattle.model.specs.Plan.{Lines}
 use Rattle.model.specs.Refusals.{Refusal, nothing, refused, sentence, or-else, plan-refusal}
 use Rattle.model.specs.Text.{Means, Reading, reads, not-read, after-refusal, Answers-text, too-long, of-no-form, of-form}
 use Rattle.model.specs.Table.{Result, entry-words}
-use Rattle.model.specs.ListingText.{listed, not-listed, no-listing, a-listing, other-frames, other-count, stated-refusal, listed-refusal, Checks-listing, by-plan, by-listing, Checks-texts, no-plan, a-plan, plan-part, listing-part, check-prints}
+use Rattle.model.specs.ListingText.{listed, not-listed, no-listing, a-listing, other-frames, other-counts, stated-refusal, listed-refusal, Checks-listing, by-plan, by-listing, Checks-texts, no-plan, a-plan, plan-part, listing-part, check-prints}
 use Rattle.plan.specs.declared.Plan.{Plan}
 use Rattle.plan.specs.Memory.{lines}
 use Rattle.checker_table.specs.declared.verdict.Checked.{Checked}
@@ -34,7 +34,7 @@ stated-first : (p : Lines) (r : Result) →
 unfolding stated-refusal frame-sentences first
 stated-first p r =
     first-append (table-sentences p (entry-words (r .entries)) (r .delay)) (frame-sentences p r)
-    ∙ ap (λ (x : Refusal). or-else x (sentence 22 (other-frames p r || other-count p r) nothing)) (table-first p (entry-words (r .entries)) (r .delay))
+    ∙ ap (λ (x : Refusal). or-else x (sentence 22 (other-frames p r || other-counts p r) nothing)) (table-first p (entry-words (r .entries)) (r .delay))
 
 pub checks-first : (p : Lines) (bytes : List ℕ) {x : Refusal} → Checks-listing p bytes x → First-of-check p bytes x
 unfolding listed-refusal

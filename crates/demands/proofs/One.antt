@@ -13,7 +13,7 @@ use Rattle.model.specs.Plan.{Lines}
 use Rattle.model.specs.Refusals.{nothing, refused, or-else, plan-refusal}
 use Rattle.model.specs.Refusals as m
 use Rattle.model.specs.Text.{print, Means, Reading, Answers-text, unless-refused, fitting, write-plan, bytes-after}
-use Rattle.model.specs.Table.{Result, result, entries-of, answered, room-refusal, plan-answer, table-after, frames-after}
+use Rattle.model.specs.Table.{Result, result, entries-of, answered, room-refusal, plan-answer, table-after, frames-after, counts-after}
 use Rattle.model.specs.Listing.{words-listing, refused-line, printed, program-prints, plan-listing, listing-refusal, list-plan, list-reading}
 use Rattle.model.specs.Checking.{table-refusal, check}
 use Rattle.model.specs.Lookup.{unless, lookup, row-start, row-length, row-part}
@@ -97,19 +97,20 @@ writing p out out-now r e b =
     keeps-list (λ n. r ≡ written.Refused n) (out-now ≡ out) ((n : ℕ) × (r ≡ written.Wrote n)) (plan-sentences (lines p) ++ ss) x
     (plan-then (lines p) ss ∙ ap (or-else (plan-refusal (lines p))) (bytes-first (print (lines p)) (length out))) (told-written (print (lines p)) out out-now x r e b)
 
-planning : (p : Plan) (table frames table-now frames-now : List ℕ) (r : Planned) → r ≡ planner.answer-of (plan-answer (lines p) (length table) (length frames)) →
+planning : (p : Plan) (table frames passed table-now frames-now passed-now : List ℕ) (r : Planned) → r ≡ planner.answer-of (plan-answer (lines p) (length table) (length frames)) →
     table-now ≡ table-after (plan-answer (lines p) (length table) (length frames)) table →
     frames-now ≡ frames-after (plan-answer (lines p) (length table) (length frames)) frames →
+    passed-now ≡ counts-after (plan-answer (lines p) (length table) (length frames)) passed →
     Keeps-to (First-of (plan-sentences (lines p) ++ room-sentences (result (lines p)) (length table) (length frames))) (λ n. r ≡ planned.Refused n)
-    ((table-now ≡ table) × (frames-now ≡ frames)) ((m : Made) × (r ≡ planned.Made m))
+    ((table-now ≡ table) × (frames-now ≡ frames) × (passed-now ≡ passed)) ((m : Made) × (r ≡ planned.Made m))
 unfolding plan-answer
-planning p table frames table-now frames-now r e t f =
+planning p table frames passed table-now frames-now passed-now r e t f k =
     let q : Result = result (lines p) in
     let ss : List Sentence = room-sentences q (length table) (length frames) in
     let x : m.Refusal = or-else (plan-refusal (lines p)) (room-refusal q (length table) (length frames)) in
-    keeps-list (λ n. r ≡ planned.Refused n) ((table-now ≡ table) × (frames-now ≡ frames)) ((m : Made) × (r ≡ planned.Made m)) (plan-sentences (lines p) ++ ss) x
+    keeps-list (λ n. r ≡ planned.Refused n) ((table-now ≡ table) × (frames-now ≡ frames) × (passed-now ≡ passed)) ((m : Made) × (r ≡ planned.Made m)) (plan-sentences (lines p) ++ ss) x
     (plan-then (lines p) ss ∙ ap (or-else (plan-refusal (lines p))) (room-first q (length table) (length frames)))
-    (told-planned q table frames table-now frames-now x r e t f)
+    (told-planned q table frames passed table-now frames-now passed-now x r e t f k)
 
 -- a text put into lent bytes, where 10 is the only sentence
 put : (bytes out out-now : List ℕ) (r : Listed) → r ≡ listing.answer-of (listing.written-of (length out) bytes) →
@@ -220,7 +221,8 @@ demand-one =
       refusing = λ p r c. plan-first (lines p) ∙ sym (refuse-says c);
       reading = λ text r c. (let h = read-plan-says c in reading text r (h .0) (h .1));
       writing = λ p out out-now r c. (let h = write-plan-says c in writing p out out-now r (h .0) (h .1));
-      planning = λ p table frames table-now frames-now r c. (let h = plan-table-says c in planning p table frames table-now frames-now r (h .0) (h .1) (h .2));
+      planning = λ p table frames passed table-now frames-now passed-now r c.
+          (let h = plan-table-says c in planning p table frames passed table-now frames-now passed-now r (h .0) (h .1) (h .2) (h .3));
       listing-words = λ p delay passed table frames out out-now r c.
           (let h = write-listing-says c in listing-bytes (words-listing (lines p) delay passed table frames) out out-now r (h .0) (h .1));
       listing-refusal = λ number out out-now r c. (let h = write-refusal-says c in listing-bytes (refused-line number) out out-now r (h .0) (h .1));

@@ -1,5 +1,5 @@
 -- The table that `riscadru_plan_table` writes is one that `riscadru_check_table` accepts, with the delay that stands in
--- the totals.
+-- the totals; and behind the delay the counts of the nodes stand there.
 -- Assumes nothing.
 use Prim.Native.Nat.{ℕ, zero, suc, _+_, _*_, _/_, _^_, _≤_, _<_}
 use mathlib.Core.Path.{_≡_, refl, sym, ap, subst, _∙_}
@@ -7,15 +7,14 @@ use mathlib.Core.Bool.{true, false}
 use mathlib.Core.List.{List, [], _∷_, append-nil, List·Memᴰ as In, List·Memᴰ·head as here, List·Memᴰ·tail as there}
 use native.Mathlib.Nat.{pow-le-pow-right}
 use native.Mathlib.Omega.{arith}
-use lib.ListN.{length, getD, take, drop, length-take, List·getD-append}
-use lib.Seq.{getD-take}
+use lib.ListN.{length, getD, take}
 use Rattle.lists.specs.Front.{front}
-use Rattle.lists.proofs.Front.{front-length, front-written}
+use Rattle.lists.proofs.Front.{front-written}
 use Rattle.model.specs.Plan.{Lines}
 use Rattle.model.specs.Activity.{Heard, heard, unheard}
 use Rattle.model.specs.Log.{full-ticks, over, known}
 use Rattle.model.specs.Refusals.{nothing, plan-refusal}
-use Rattle.model.specs.Text.{Reading, reads}
+use Rattle.model.specs.Text.{Reading, reads, Means}
 use Rattle.model.specs.Table.{Entry, entry-of, known-bits, value-bits, result, entry-words}
 use Rattle.model.specs.Checking.{table-refusal, check}
 use Rattle.model.specs.Firmware.{words-of}
@@ -24,13 +23,13 @@ use Rattle.laws.proofs.Entries.{final, entries-in}
 use Rattle.laws.proofs.Good.{good}
 use Rattle.laws.proofs.OwnTable.{own-table-sound}
 use Rattle.laws.proofs.Sound.{sound-iff}
-use Rattle.planner_table.proofs.Most.{delay-most}
+use Rattle.planner_table.proofs.Most.{delay-most, entries-cap, frames-cap}
 use Rattle.checker_rows.proofs.ColumnBits.{Formed, formed}
-use Rattle.laws.proofs.Words.{entries-back}
-use Rattle.c_words.specs.Bytes.{word-bytes, bytes-of}
-use Rattle.c_words.proofs.Reading.{words-count, words-at}
+use Rattle.laws.proofs.Passed.{counts-most}
+use Rattle.laws.proofs.Words.{entries-back, counts-each}
+use Rattle.c_words.specs.Bytes.{bytes-of}
 use Rattle.c_words.proofs.Writing.{bytes-count}
-use Rattle.c_words.proofs.Back.{Words, words-back}
+use Rattle.c_words.proofs.Back.{Words, words-back, word-there}
 use Rattle.c_plan.specs.Filled.{totals-of}
 use Rattle.c_check.specs.Checks.{checked-of, checked-number, Checks}
 use Rattle.c_interface.specs.Tables.{planned-of, Puts, Tables}
@@ -85,29 +84,16 @@ module _ (p : Lines) (fine : plan-refusal p ≡ nothing) where
         place = omega (arith, f .place-most);
       }
 
--- the third of four words that stand at the front of lent bytes
-module _ (a b d q : ℕ) (lent : List ℕ) (small : d < 2 ^ 32) (enough : 12 ≤ length lent) where
-  abbrev four : List ℕ
-  four = bytes-of (a ∷ b ∷ d ∷ q ∷ [])
+  -- the totals are numbers of 32 bits
+  counts-small : (n : ℕ) → getD (result p .passed) n 0 < 2 ^ 32
+  counts-small n = omega (arith, counts-most p fine n)
 
-  abbrev now : List ℕ
-  now = front (take (length lent) four) lent
-
-  byte-there : (k : ℕ) → k < 12 → getD now k 0 ≡ getD four k 0
-  unfolding front
-  byte-there k l =
-      let n = bytes-count (a ∷ b ∷ d ∷ q ∷ []) in
-      List·getD-append (take (length lent) four) (drop (length (take (length lent) four)) lent) 0 k (omega (arith, length-take (length lent) four))
-      ∙ getD-take (length lent) four k 0 (omega arith)
-
-  third : getD (words-of now) 2 0 ≡ d
-  unfolding bytes-of word-bytes
-  third =
-      let l : length now ≡ length lent = front-length (take (length lent) four) lent (omega (arith, length-take (length lent) four)) in
-      let w = words-back (d ∷ []) [] (λ i h. (let z : i ≡ 0 = omega arith in rw z small)) (omega arith) in
-      words-at now 2 (omega (arith, words-count now))
-      ∙ (λ i. byte-there 8 (omega arith) i + 256 * byte-there 9 (omega arith) i + 65536 * byte-there 10 (omega arith) i + 16777216 * byte-there 11 (omega arith) i)
-      ∙ ap (λ (ws : List ℕ). getD ws 0 0) w
+  totals-small : Words (totals-of (result p))
+  unfolding totals-of
+  totals-small zero l = omega (arith, entries-cap p fine)
+  totals-small (suc zero) l = omega (arith, frames-cap p fine)
+  totals-small (suc (suc zero)) l = omega (arith, delay-most p fine)
+  totals-small (suc (suc (suc n))) l = counts-small n
 
 module _ (text table frames totals table-now frames-now totals-now : List ℕ) (answer : ℕ) where
   -- the checker's refusal for what was read, of the bytes written and with the third word of the totals
@@ -124,7 +110,7 @@ module _ (text table frames totals table-now frames-now totals-now : List ℕ) (
       ∙ ap words-of (front-written (bytes-of words) table ∙ sym (append-nil (bytes-of words)))
       ∙ words-back words [] (words-small (result p .entries) (entry-small p fine)) (omega arith) in
       let d : getD (words-of totals-now) 2 0 ≡ result p .delay =
-      ap (λ (z : List ℕ). getD (words-of z) 2 0) (s .total-words) ∙ third _ _ (result p .delay) _ totals (omega (arith, delay-most p fine)) l in
+      ap (λ (z : List ℕ). getD (words-of z) 2 0) (s .total-words) ∙ word-there (totals-of (result p)) totals (totals-small p fine) 2 (omega arith) (omega arith) in
       (λ i. table-refusal p (t i) (d i)) ∙ neither (plan-refusal p) (table-refusal p words (result p .delay)) (own-table-sound p fine) .1
 
   -- Whatever text and bytes are lent, those for the totals at least twelve: where `riscadru_plan_table` does not
@@ -141,6 +127,31 @@ module _ (text table frames totals table-now frames-now totals-now : List ℕ) (
       (λ p m fine f u. accepts p fine l (scheduled-bytes text table frames totals table-now frames-now totals-now answer p fine f u)) in
       let y : Accepts (c .reading) = x .2 (none-applies (c-planning text table frames totals table-now frames-now totals-now answer c) not (x .0) (x .1)) (c .puts) in
       record { reading = c .reading; of-text = c .of-text; number = ap checked-number (sym y) }
+
+  -- the counts of the nodes stand behind the first three words of the totals
+  abbrev Counts : Type 0
+  Counts =
+      (p : Lines) × Means text p
+      × ((n : ℕ) → n < length (p .slots) → (n + 3) * 4 + 4 ≤ length totals → getD (words-of totals-now) (n + 3) 0 ≡ getD (result p .passed) n 0)
+
+  counts : (p : Lines) → plan-refusal p ≡ nothing → Scheduled-bytes p table frames totals table-now frames-now totals-now answer → (n : ℕ) → n < length (p .slots) →
+      (n + 3) * 4 + 4 ≤ length totals → getD (words-of totals-now) (n + 3) 0 ≡ getD (result p .passed) n 0
+  unfolding totals-of
+  counts p fine s n l room =
+      let z : n + 3 ≡ suc (suc (suc n)) = omega arith in
+      ap (λ (w : List ℕ). getD (words-of w) (n + 3) 0) (s .total-words)
+      ∙ word-there (totals-of (result p)) totals (totals-small p fine) (n + 3) (omega (arith, counts-each p)) room
+      ∙ ap (λ (k : ℕ). getD (totals-of (result p)) k 0) z
+
+  pub c-planned-counts : Tables text table frames totals table-now frames-now totals-now answer → Not-refused answer → Counts
+  unfolding planned-of
+  c-planned-counts c not =
+      let x =
+      by-text text (λ p. room-sentences (result p) (length table / 4) (length frames / 4))
+      (λ s x. x ≡ nothing → Puts (planned-of s (length table / 4) (length frames / 4)) table frames totals table-now frames-now totals-now answer → Counts) (c .reading) (c .of-text)
+      (λ n l k f. absurd (let z : _≡_ {A = ℕ} 0 1 = cc in omega arith))
+      (λ p m fine f u. (p, m, counts p fine (scheduled-bytes text table frames totals table-now frames-now totals-now answer p fine f u))) in
+      x .2 (none-applies (c-planning text table frames totals table-now frames-now totals-now answer c) not (x .0) (x .1)) (c .puts)
 
 -- the contract of `riscadru_check_table` leaves one answer
 pub c-checked-once : (text table : List ℕ) (delay one other : ℕ) → Checks text table delay one → Checks text table delay other → one ≡ other

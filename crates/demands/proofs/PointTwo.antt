@@ -63,7 +63,7 @@ none-answered (refused n) e = absurd (let z : _≡_ {A = ℕ} 0 1 = cc in omega 
 -- in memory
 module _ (p : Plan) (bytes : List ℕ) where
   has : Has (lines p) bytes → Accepted-listing (lines p) bytes
-  has h = record { stated = h .stated; states = h .states; sound = h .has .sound; its-frames = h .has .its-frames; its-count = h .has .its-count }
+  has h = record { stated = h .stated; states = h .states; sound = h .has .sound; its-frames = h .has .its-frames; its-counts = h .has .its-counts }
 
   accepted-has : (r : Checked) → Checks (lines p) bytes r → r ≡ checked.Accepted → Accepted-listing (lines p) bytes
   accepted-has r c e =
@@ -72,7 +72,7 @@ module _ (p : Plan) (bytes : List ℕ) where
 
 has-back : (p : Lines) (bytes : List ℕ) → Accepted-listing p bytes → Has p bytes
 has-back p bytes a =
-    record { stated = a .stated; states = a .states; has = record { sound = a .sound; its-frames = a .its-frames; its-count = a .its-count } }
+    record { stated = a .stated; states = a .states; has = record { sound = a .sound; its-frames = a .its-frames; its-counts = a .its-counts } }
 
 has-accepted : (p : Plan) (bytes : List ℕ) (r : Checked) → Checks (lines p) bytes r → Accepted-listing (lines p) bytes → r ≡ checked.Accepted
 unfolding answer-of
@@ -116,7 +116,7 @@ accepted-for text bytes x (of-text p y m l c) e =
       plan = p;
       means = m;
       short = l;
-      accepted = record { stated = h .stated; states = h .states; sound = h .has .sound; its-frames = h .has .its-frames; its-count = h .has .its-count };
+      accepted = record { stated = h .stated; states = h .states; sound = h .has .sound; its-frames = h .has .its-frames; its-counts = h .has .its-counts };
     }
 
 for-texts : (text bytes : List ℕ) → Accepted-for text bytes → Checks-texts text bytes nothing
@@ -208,11 +208,10 @@ printed-accepted text out out-now count c f verdict verdict-now many k =
     (s .counted ∙ ap (λ (z : Refusal). length (check-prints z)) q, s .bytes ∙ ap (λ (z : Refusal). front (check-prints z) verdict) q)
 
 -- printed again: the words of what a text states print as it
-same-listing : (p : Lines) (bytes : List ℕ) (s : Result) → States p bytes s → words-listing p (s .delay) (sum (s .passed)) (entry-words (s .entries)) (frame-words (s .frames)) ≡ bytes
-unfolding words-listing listing passed-lines
-same-listing p bytes s m =
-    let z : sum (s .passed) + 0 ≡ sum (s .passed) = omega arith in
-    rw (entries-back (s .entries), frames-back (s .frames), z) (m .prints)
+same-listing : (p : Lines) (bytes : List ℕ) (s : Result) → States p bytes s → (passed : List ℕ) → take (length (p .slots)) passed ≡ s .passed →
+    words-listing p (s .delay) passed (entry-words (s .entries)) (frame-words (s .frames)) ≡ bytes
+unfolding words-listing
+same-listing p bytes s m passed e = rw (entries-back (s .entries), frames-back (s .frames), e) (m .prints)
 
 written-whole : (bytes out out-now : List ℕ) (r : Listed) → r ≡ listing-answer.answer-of (listing-answer.written-of (length out) bytes) →
     out-now ≡ bytes-after (listing-answer.written-of (length out) bytes) out → length bytes ≤ length out → (r ≡ listed.Wrote (length bytes)) × (out-now ≡ front bytes out)
@@ -249,7 +248,7 @@ module _ (p : Plan) (table : List ℕ) (delay : ℕ) (c : calls.Check-table p ta
         states = given-states;
         sound = rw (words-back table (sound-iff (lines p) table delay .0 sound .1)) sound;
         its-frames = refl;
-        its-count = refl;
+        its-counts = refl;
       })
 
 pub point-2 : Point-2
@@ -268,9 +267,9 @@ point-2 =
       planned-accepted = planned-accepted;
       c-planned-accepted = c-planned-accepted;
       printed-accepted = printed-accepted;
-      printed-again = λ p bytes s m out out-now r c l.
+      printed-again = λ p bytes s m out out-now r passed e c l.
           (let w = write-listing-says c in
-          let q = same-listing (lines p) bytes s m in
+          let q = same-listing (lines p) bytes s m passed e in
           written-whole bytes out out-now r (w .0 ∙ ap (λ (z : List ℕ). listing-answer.answer-of (listing-answer.written-of (length out) z)) q)
           (w .1 ∙ ap (λ (z : List ℕ). bytes-after (listing-answer.written-of (length out) z) out) q) l);
       read-again = λ p table delay c h s m. read-again p table delay c h s m;

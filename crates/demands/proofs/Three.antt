@@ -57,9 +57,9 @@ module _ (p : Plan) (table : List ℕ) (delay : ℕ) where
   is-sound : Check-table p table delay Accepted → Sound (lines p) table delay
   is-sound c = accepted-sound p table delay .0 (sym (check-table-says c))
 
-made-accepted : (p : Plan) (table frames table-now frames-now : List ℕ) (m : Made) → Plan-table p table frames table-now frames-now (planned.Made m) → (r : Checked) →
+made-accepted : (p : Plan) (table frames passed table-now frames-now passed-now : List ℕ) (m : Made) → Plan-table p table frames passed table-now frames-now passed-now (planned.Made m) → (r : Checked) →
     Check-table p (take (m .words) table-now) (m .delay) r → r ≡ Accepted
-made-accepted p table frames table-now frames-now m c r k =
+made-accepted p table frames passed table-now frames-now passed-now m c r k =
     let h = plan-table-says c in
     check-table-says k ∙ ap (λ (z : List ℕ). answer-of (check (lines p) (take (m .words) z) (m .delay))) (h .1) ∙ planned-accepted p table frames m (h .0)
 

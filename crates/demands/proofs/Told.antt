@@ -13,7 +13,7 @@ use Rattle.model.specs.Plan.{Lines}
 use Rattle.model.specs.Refusals.{nothing, refused, sentence, plan-refusal}
 use Rattle.model.specs.Refusals as m
 use Rattle.model.specs.Text.{Means, reads, not-read, after-refusal, unless-refused, bytes-after}
-use Rattle.model.specs.Table.{Result, result, answered, table-after, frames-after, entry-words, frame-words}
+use Rattle.model.specs.Table.{Result, result, answered, table-after, frames-after, counts-after, entry-words, frame-words}
 use Rattle.model.specs.Listing.{plan-listing, listing-refusal}
 use Rattle.program.proofs.Room.{listing-most}
 use Rattle.plan.specs.Memory.{lines, empty-plan}
@@ -112,13 +112,13 @@ module _ (p : Lines) (fine : plan-refusal p ≡ nothing) (out out-now : List ℕ
           number-result (out-now ≡ out) (answer ≤ length out) answer (omega arith) (omega (arith, ltb-false (length out) (length (plan-listing p)) t))
 
 -- the planner's answer
-module _ (q : Result) (table frames table-now frames-now : List ℕ) where
+module _ (q : Result) (table frames passed table-now frames-now passed-now : List ℕ) where
   pub told-planned : (x : m.Refusal) (r : Planned) → r ≡ planner.answer-of (answered x q) → table-now ≡ table-after (answered x q) table →
-      frames-now ≡ frames-after (answered x q) frames →
-      Told (λ n. r ≡ planned.Refused n) ((table-now ≡ table) × (frames-now ≡ frames)) ((m : Made) × (r ≡ planned.Made m)) x
-  unfolding answered table-after frames-after planner.answer-of
-  told-planned nothing r e t f = ((λ n g. absurd (let z : _≡_ {A = ℕ} 0 1 = cc in omega arith)), (_, e))
-  told-planned (refused n) r e t f = (e, (λ k g. cc), (t, f))
+      frames-now ≡ frames-after (answered x q) frames → passed-now ≡ counts-after (answered x q) passed →
+      Told (λ n. r ≡ planned.Refused n) ((table-now ≡ table) × (frames-now ≡ frames) × (passed-now ≡ passed)) ((m : Made) × (r ≡ planned.Made m)) x
+  unfolding answered table-after frames-after counts-after planner.answer-of
+  told-planned nothing r e t f k = ((λ n g. absurd (let z : _≡_ {A = ℕ} 0 1 = cc in omega arith)), (_, e))
+  told-planned (refused n) r e t f k = (e, (λ j g. cc), (t, f, k))
 
 -- the same put into lent bytes, as a number
 module _ (q : Result) (table frames totals table-now frames-now totals-now : List ℕ) (answer : ℕ) where

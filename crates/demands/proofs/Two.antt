@@ -12,7 +12,7 @@ use Rattle.model.specs.Plan.{Lines}
 use Rattle.model.specs.Refusals.{Refusal, nothing, refused, or-else, plan-refusal}
 use Rattle.model.specs.Text.{print, Means, Reading, reads, not-read, after-refusal, Answers-text, of-form, wrote, not-written, unless-refused, write-plan, bytes-after}
 use Rattle.model.specs.Text as text
-use Rattle.model.specs.Table.{Answer, made, Result, result, entry-words, frame-words, answered, room-refusal, plan-answer, table-after, frames-after}
+use Rattle.model.specs.Table.{Answer, made, Result, result, entry-words, frame-words, answered, room-refusal, plan-answer, table-after, frames-after, counts-after}
 use Rattle.model.specs.Listing.{printed, program-prints, plan-listing, listing-refusal, list-plan, list-reading}
 use Rattle.laws.proofs.Good.{good}
 use Rattle.laws.proofs.Choice.{urgency-law, urgency-weights, number-weights, starts-highest, queue-ordered}
@@ -108,13 +108,14 @@ module _ (text out out-now : List ℕ) (answer : ℕ) where
       (c .reading) (c .of-text) (λ n l k f. absurd (let z : _≡_ {A = ℕ} 0 1 = cc in omega arith)) (λ p m fine f e b. copied-back p m fine f e b) in
       x .2 (none-applies (c-copying text out out-now answer c) not (x .0) (x .1)) (c .number) (c .bytes)
 
-scheduled : (p : Plan) (table frames table-now frames-now : List ℕ) (m : Made) →
+scheduled : (p : Plan) (table frames passed table-now frames-now passed-now : List ℕ) (m : Made) →
     planned.Made m ≡ planner.answer-of (plan-answer (lines p) (length table) (length frames)) →
     table-now ≡ table-after (plan-answer (lines p) (length table) (length frames)) table →
     frames-now ≡ frames-after (plan-answer (lines p) (length table) (length frames)) frames →
-    Scheduled (lines p) table frames table-now frames-now m
-unfolding table-after frames-after
-scheduled p table frames table-now frames-now m e t f =
+    passed-now ≡ counts-after (plan-answer (lines p) (length table) (length frames)) passed →
+    Scheduled (lines p) table frames passed table-now frames-now passed-now m
+unfolding table-after frames-after counts-after
+scheduled p table frames passed table-now frames-now passed-now m e t f k =
     let a : Answer = plan-answer (lines p) (length table) (length frames) in
     let w : Was-made a m = was-made a m e in
     let same : w .result ≡ result (lines p) = made-fine (lines p) (length table) (length frames) (w .result) (w .is-made) .1 in
@@ -124,7 +125,7 @@ scheduled p table frames table-now frames-now m e t f =
       words = w .words ∙ ap (λ (q : Result). length (entry-words (q .entries))) same;
       framewords = w .framewords ∙ ap (λ (q : Result). length (frame-words (q .frames))) same;
       worst-delay = w .delay ∙ ap (λ (q : Result). q .delay) same;
-      pass-overs = w .passed ∙ ap (λ (q : Result). sum (q .passed)) same;
+      pass-overs = k ∙ ap (λ (x : Answer). counts-after x passed) (w .is-made) ∙ ap (λ (q : Result). front (q .passed) passed) same;
     }
 
 module _ (text table frames totals table-now frames-now totals-now : List ℕ) (answer : ℕ) where
@@ -212,7 +213,8 @@ demand-two =
           (written-is-read (lines p) (length out) (take n out-now) (reading-of r) (written-back (write-plan (lines p) (length out)) out out-now n (h .0) (h .1)) (read-plan-says a .0)));
       read-written = λ text r a e out out-now w l c. (let h = write-plan-says c in read-written text r (read-plan-says a .0) e out out-now w l (h .0) (h .1));
       c-copied = λ text out out-now answer c not. c-copied text out out-now answer (c-copy-plan-says c) not;
-      scheduled = λ p table frames table-now frames-now m c. (let h = plan-table-says c in scheduled p table frames table-now frames-now m (h .0) (h .1) (h .2));
+      scheduled = λ p table frames passed table-now frames-now passed-now m c.
+          (let h = plan-table-says c in scheduled p table frames passed table-now frames-now passed-now m (h .0) (h .1) (h .2) (h .3));
       c-scheduled = λ text table frames totals table-now frames-now totals-now answer c not.
           c-scheduled text table frames totals table-now frames-now totals-now answer (c-plan-table-says c) not;
       listed = λ text out out-now n c. (let q = list-plan-says c in was-listed text out out-now n (q .reading) (q .of-text) (q .answer) (q .bytes));

@@ -117,16 +117,18 @@ pub data Write-plan : (plan : Plan) → (out out-now : List ℕ) → (answer : W
   write-plan : (c : Call write-plan-kinds.ps write-plan-kinds.r write-plan-reads.Learnt) →
       Write-plan (c .handed .0) (c .handed .1 .0 .now) (c .ended .1 .0 .now) (c .result)
 
--- `planner::plan_table`: a plan and the words lent for table and frame list, those words afterwards, and the answer
-pub data Plan-table : (plan : Plan) → (table frames table-now frames-now : List ℕ) → (answer : Planned) → Type 0 where
-  plan-table : (c : Call plan-table-kinds.ps plan-table-kinds.r plan-table-reads.Learnt) →
-      Plan-table (c .handed .0) (c .handed .1 .0 .now) (c .handed .1 .1 .0 .now) (c .ended .1 .0 .now) (c .ended .1 .1 .0 .now) (c .result)
-
--- `listing::write_listing`: a plan, delay, pass-over count, table, frame list and the bytes lent, those bytes
+-- `planner::plan_table`: a plan and the words lent for table, frame list and the counts of the nodes, those words
 -- afterwards, and the answer
-pub data Write-listing : (plan : Plan) → (delay passed : ℕ) → (table frames out out-now : List ℕ) → (answer : Listed) → Type 0 where
+pub data Plan-table : (plan : Plan) → (table frames passed table-now frames-now passed-now : List ℕ) → (answer : Planned) → Type 0 where
+  plan-table : (c : Call plan-table-kinds.ps plan-table-kinds.r plan-table-reads.Learnt) →
+      Plan-table (c .handed .0) (c .handed .1 .0 .now) (c .handed .1 .1 .0 .now) (c .handed .1 .1 .1 .0 .now) (c .ended .1 .0 .now)
+      (c .ended .1 .1 .0 .now) (c .ended .1 .1 .1 .0 .now) (c .result)
+
+-- `listing::write_listing`: a plan, delay, counts of the nodes, table, frame list and the bytes lent, those bytes
+-- afterwards, and the answer
+pub data Write-listing : (plan : Plan) → (delay : ℕ) → (passed table frames out out-now : List ℕ) → (answer : Listed) → Type 0 where
   write-listing : (c : Call write-listing-kinds.ps write-listing-kinds.r write-listing-reads.Learnt) →
-      Write-listing (c .handed .0) (c .handed .1 .0) (c .handed .1 .1 .0) (c .handed .1 .1 .1 .0 .now) (c .handed .1 .1 .1 .1 .0 .now) (c .handed .1 .1 .1 .1 .1 .0 .now) (c .ended .1 .1 .1 .1 .1 .0 .now) (c .result)
+      Write-listing (c .handed .0) (c .handed .1 .0) (c .handed .1 .1 .0 .now) (c .handed .1 .1 .1 .0 .now) (c .handed .1 .1 .1 .1 .0 .now) (c .handed .1 .1 .1 .1 .1 .0 .now) (c .ended .1 .1 .1 .1 .1 .0 .now) (c .result)
 
 -- `listing::write_refusal`: a number and the bytes lent, those bytes afterwards, and the answer
 pub data Write-refusal : (number : ℕ) → (out out-now : List ℕ) → (answer : Listed) → Type 0 where

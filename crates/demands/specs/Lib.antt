@@ -6,3 +6,4 @@ pub mod Two
 pub mod Three
 pub mod PointOne
 pub mod PointTwo
+pub mod PointThree

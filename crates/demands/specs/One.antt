@@ -80,11 +80,12 @@ pub record Demand-1 : Type 2 where
       Keeps-to (First-of (plan-sentences (lines p) ++ bytes-sentences (print (lines p)) (length out))) (λ n. r ≡ written.Refused n)
       (out-now ≡ out) ((n : ℕ) × (r ≡ written.Wrote n))
   -- `planner::plan_table`
-  pub planning : (p : Plan) (table frames table-now frames-now : List ℕ) (r : Planned) → calls.Plan-table p table frames table-now frames-now r →
+  pub planning : (p : Plan) (table frames passed table-now frames-now passed-now : List ℕ) (r : Planned) →
+      calls.Plan-table p table frames passed table-now frames-now passed-now r →
       Keeps-to (First-of (plan-sentences (lines p) ++ room-sentences (result (lines p)) (length table) (length frames))) (λ n. r ≡ planned.Refused n)
-      ((table-now ≡ table) × (frames-now ≡ frames)) ((m : Made) × (r ≡ planned.Made m))
+      ((table-now ≡ table) × (frames-now ≡ frames) × (passed-now ≡ passed)) ((m : Made) × (r ≡ planned.Made m))
   -- `listing::write_listing`
-  pub listing-words : (p : Plan) (delay passed : ℕ) (table frames out out-now : List ℕ) (r : Listed) →
+  pub listing-words : (p : Plan) (delay : ℕ) (passed table frames out out-now : List ℕ) (r : Listed) →
       calls.Write-listing p delay passed table frames out out-now r →
       Keeps-to (First-of (bytes-sentences (words-listing (lines p) delay passed table frames) (length out))) (λ n. r ≡ listed.Refused n)
       (out-now ≡ out) ((n : ℕ) × (r ≡ listed.Wrote n))

@@ -8,7 +8,6 @@ use mathlib.Core.Bool.{true}
 use mathlib.Core.List.{List, _∷_, _++_, List·Memᴰ as In}
 use lib.ListN.{length, take}
 use Rattle.limits.specs.Limits.{INPUT}
-use Rattle.lists.specs.Lists.{sum}
 use Rattle.lists.specs.Front.{front}
 use Rattle.model.specs.Plan.{Lines}
 use Rattle.model.specs.Refusals.{Refusal, nothing}
@@ -16,7 +15,7 @@ use Rattle.model.specs.Text.{Means}
 use Rattle.model.specs.Table.{Entry, Result, result, frames, entry-words, frame-words, entries-of}
 use Rattle.model.specs.Checking.{Sound}
 use Rattle.model.specs.Listing.{listing}
-use Rattle.model.specs.ListingText.{States, rows-in-order, pass-overs, Checks-input, check-prints}
+use Rattle.model.specs.ListingText.{States, rows-in-order, Checks-input, check-prints}
 use Rattle.model.specs.Demand.{Runs-right}
 use Rattle.plan.specs.declared.Plan.{Plan}
 use Rattle.plan.specs.Memory.{lines}
@@ -30,13 +29,13 @@ use Rattle.demands.specs.Sentences.{plan-sentences, room-sentences, Firs
 use Rattle.demands.specs.Two.{Not-refused}
 
 -- "An accepted listing has everything an accepted table has": what it states is a sound table with its delay, the
--- frames that the entries give, and the plan's pass-over count
+-- frames that the entries give, and the plan's pass-over counts, node by node
 pub record Accepted-listing (p : Lines) (bytes : List ℕ) : Type 0 where
   pub stated : Result
   pub states : States p bytes stated
   pub sound : Sound p (entry-words (stated .entries)) (stated .delay)
   pub its-frames : stated .frames ≡ frames p (stated .entries)
-  pub its-count : stated .passed ≡ pass-overs p
+  pub its-counts : stated .passed ≡ result p .passed
 
 -- the same for the lines that a text of at most 16,384 bytes means
 pub record Accepted-for (text bytes : List ℕ) : Type 0 where
@@ -45,9 +44,9 @@ pub record Accepted-for (text bytes : List ℕ) : Type 0 where
   pub short : length text ≤ 16384
   pub accepted : Accepted-listing plan bytes
 
--- the listing of a table with a stated delay: the plan's pass-over count, and the frames that the entries give
+-- the listing of a table with a stated delay: the plan's pass-over counts, and the frames that the entries give
 abbrev pub listing-of : Lines → List ℕ → ℕ → List ℕ
-listing-of p table delay = listing p delay (pass-overs p) (entries-of table) (frames p (entries-of table))
+listing-of p table delay = listing p delay (result p .passed) (entries-of table) (frames p (entries-of table))
 
 -- a table that a listing can state: its delay has nine digits, its value words 32 bits, its rows stand in order, and it
 -- is not too long
@@ -86,9 +85,10 @@ pub record Point-2 : Type 0 where
       (verdict verdict-now : List ℕ) (many : ℕ) → calls.Print-check (text ++ (10 ∷ take count out-now)) verdict verdict-now many →
       (many ≡ length (check-prints nothing)) × (verdict-now ≡ front (check-prints nothing) verdict)
   -- "A printed table read and printed again is byte for byte the same": what a text states, in whatever order the lines
-  -- of a row stand, written by `listing::write_listing` into bytes that suffice
+  -- of a row stand, written by `listing::write_listing` into bytes that suffice, from words that begin with its counts
   pub printed-again : (p : Plan) (bytes : List ℕ) (s : Result) → States (lines p) bytes s → (out out-now : List ℕ) (r : Listed) →
-      calls.Write-listing p (s .delay) (sum (s .passed)) (entry-words (s .entries)) (frame-words (s .frames)) out out-now r →
+      (passed : List ℕ) → take (length (lines p .slots)) passed ≡ s .passed →
+      calls.Write-listing p (s .delay) passed (entry-words (s .entries)) (frame-words (s .frames)) out out-now r →
       length bytes ≤ length out → (r ≡ listed.Wrote (length bytes)) × (out-now ≡ front bytes out)
   -- and an accepted table, printed and read, is that table, and accepted
   pub read-again : (p : Plan) (table : List ℕ) (delay : ℕ) → calls.Check-table p table delay checked.Accepted →

@@ -14,7 +14,7 @@ use Rattle.model.specs.Refusals.{Refusal, nothing, refused, sentence, wrong-cou
 use Rattle.model.specs.Text.{Means}
 use Rattle.model.specs.Table.{Result, result, entry-words, frame-words, entries-of}
 use Rattle.model.specs.Listing.{plan-listing}
-use Rattle.model.specs.ListingText.{States, other-frames, other-count}
+use Rattle.model.specs.ListingText.{States, other-frames, other-counts}
 use Rattle.model.specs.Checking.{ill-formed, in-some, not-once, uses-unknown, too-early, off-slot, overlap, share-byte, greatest-delay}
 
 -- a sentence of the list: its number, and whether it applies
@@ -85,7 +85,7 @@ pub data First-of-text (text : List ℕ) (on : Lines → List Sentence) : Refusa
 
 -- 22, on what a listing states
 unfoldable pub frame-sentences : Lines → Result → List Sentence
-frame-sentences p r = says 22 (other-frames p r || other-count p r) ∷ []
+frame-sentences p r = says 22 (other-frames p r || other-counts p r) ∷ []
 
 -- x is the first that applies to a listing, where 2 to 9 find nothing in its plan: 21, "the listing is not of its form,
 -- or has over 3,000 entries or 2,000 frames", or the first of 12 to 20 and 22 on what it states

@@ -35,8 +35,8 @@ pub record Demand-3 : Type 0 where
   pub accepts : (p : Plan) (table : List ℕ) (delay : ℕ) (r : Checked) → calls.Check-table p table delay r →
       (r ≡ checked.Accepted) ↔ Sound (lines p) table delay
   -- it accepts what `planner::plan_table` wrote, as many words as that says, with the delay that it gave
-  pub planned-accepted : (p : Plan) (table frames table-now frames-now : List ℕ) (m : Made) →
-      calls.Plan-table p table frames table-now frames-now (planned.Made m) → (r : Checked) →
+  pub planned-accepted : (p : Plan) (table frames passed table-now frames-now passed-now : List ℕ) (m : Made) →
+      calls.Plan-table p table frames passed table-now frames-now passed-now (planned.Made m) → (r : Checked) →
       calls.Check-table p (take (m .words) table-now) (m .delay) r → r ≡ checked.Accepted
   -- every run of a table that it accepted, with answers of `kernel::lookup`
   pub runs-right : (p : Plan) (table : List ℕ) (delay : ℕ) → calls.Check-table p table delay checked.Accepted → (answers : Answers) →

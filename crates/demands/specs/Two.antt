@@ -10,7 +10,7 @@ use mathlib.Core.Logic.{_⊎_}
 use mathlib.Core.Bool.{true}
 use mathlib.Core.List.{List, _++_, map, List·Memᴰ as In}
 use lib.ListN.{length, take, getD}
-use Rattle.lists.specs.Lists.{sum, greatest}
+use Rattle.lists.specs.Lists.{greatest}
 use Rattle.lists.specs.Front.{front}
 use Rattle.lists.specs.Ordered.{Ranked}
 use Rattle.model.specs.Plan.{Lines, by-urgency, by-number, process, edge, out-of}
@@ -43,13 +43,13 @@ abbrev pub Not-refused : ℕ → Type 0
 Not-refused answer = (n : ℕ) → In-number answer n → ⊥
 
 -- what the planner made is what list scheduling gives for the plan's lines; words beyond stay as they were
-pub record Scheduled (p : Lines) (table frames table-now frames-now : List ℕ) (m : Made) : Type 0 where
+pub record Scheduled (p : Lines) (table frames passed table-now frames-now passed-now : List ℕ) (m : Made) : Type 0 where
   pub start-table : table-now ≡ front (entry-words (result p .entries)) table
   pub frame-list : frames-now ≡ front (frame-words (result p .frames)) frames
   pub words : m .words ≡ length (entry-words (result p .entries))
   pub framewords : m .framewords ≡ length (frame-words (result p .frames))
   pub worst-delay : m .delay ≡ result p .delay
-  pub pass-overs : m .passed ≡ sum (result p .passed)
+  pub pass-overs : passed-now ≡ front (result p .passed) passed
 
 -- the same as bytes, four to a word, the lowest first
 pub record Scheduled-bytes (p : Lines) (table frames totals table-now frames-now totals-now : List ℕ) (answer : ℕ) : Type 0 where
@@ -90,8 +90,9 @@ pub record Demand-2 : Type 0 where
   pub c-copied : (text out out-now : List ℕ) (answer : ℕ) → calls.C-copy-plan text out out-now answer → Not-refused answer →
       (answer ≡ length text) × (out-now ≡ front text out)
   -- `planner::plan_table`
-  pub scheduled : (p : Plan) (table frames table-now frames-now : List ℕ) (m : Made) →
-      calls.Plan-table p table frames table-now frames-now (planned.Made m) → Scheduled (lines p) table frames table-now frames-now m
+  pub scheduled : (p : Plan) (table frames passed table-now frames-now passed-now : List ℕ) (m : Made) →
+      calls.Plan-table p table frames passed table-now frames-now passed-now (planned.Made m) →
+      Scheduled (lines p) table frames passed table-now frames-now passed-now m
   -- `riscadru_plan_table`: for the lines that the text means
   pub c-scheduled : (text table frames totals table-now frames-now totals-now : List ℕ) (answer : ℕ) →
       calls.C-plan-table text table frames totals table-now frames-now totals-now answer → Not-refused answer →

@@ -17,6 +17,7 @@ use Rattle.model.specs.Bus.{slot-of}
 use Rattle.model.specs.Refusals.{Refusal, nothing, refused, sentence, or-else, outside, twin-edges, undecided, wrong-counts, wrong-plan, wrong-slot, wrong-edge, wrong-ticks, wrong-sizes, no-node, wrong-nodes, no-process, wrong-deciders, wrong-ends, wrong-when, too-long, plan-refusal}
 
 pub record Good (p : Lines) : Type 0 where
+  pub some-slot : 1 ≤ length (p .slots)
   pub few-slots : length (p .slots) ≤ 8
   pub few-processes : length (p .processes) ≤ 64
   pub few-conditions : length (p .conditions) ≤ 6
@@ -115,6 +116,7 @@ good p h =
     λ i l. leb-false _ _ (none-at (λ q. no-node p (q .node)) (p .processes) i no-process′ (b4 .1) l) in
     let there : (i : ℕ) → i < length (p .processes) → In (process p i .node) (nodes p) = λ i l. node-there p (b4 .0) (a4 .1) (process p i .node) (process-node i l) in
     record {
+      some-slot = inside 1 8 (length (p .slots)) (c2 .0) .0;
       few-slots = inside 1 8 (length (p .slots)) (c2 .0) .1;
       few-processes = inside 1 64 (length (p .processes)) (c2 .1) .1;
       few-conditions = ltb-false 6 (length (p .conditions)) (b2 .1);

@@ -52,7 +52,8 @@
 --   Words           entries and frames as words and back, and the listing of a result's words
 --   Frames          every frame is used by an item of its node (`frame-used`), and every item has its frame
 -- (`item-framed`)
---   Passed          what the slots of a node pass over in all combinations
+--   Passed          what the slots of a node pass over in all combinations; the counts of the nodes add up to all of it
+-- (`pass-overs-added`)
 --
 -- Printed tables
 --   Listable        an entry that 13 lets pass can be listed

@@ -1,14 +1,16 @@
 -- Entries and frames as words, and back; and the listing of a result is the listing of its words.
 -- Assumes nothing.
-use mathlib.Core.Path.{_≡_, refl, ap}
+use mathlib.Core.Path.{_≡_, refl, ap, _∙_}
 use mathlib.Core.List.{List, [], _∷_, _++_}
 use Prim.Native.Nat.{ℕ, _+_, _*_, _%_}
 use native.Mathlib.Omega.{arith}
-use lib.ListN.{length}
-use Rattle.lists.specs.Lists.{sum}
+use lib.ListN.{length, length-map}
+use lib.Seq.{take-all}
+use Rattle.lists.specs.Lists.{below}
+use Rattle.lists.proofs.Keep.{length-upfrom}
 use Rattle.model.specs.Plan.{Lines}
-use Rattle.model.specs.Table.{Entry, Frame, Result, made, entry-words, frame-words, entries-of, frames-of}
-use Rattle.model.specs.Listing.{passed-lines, listing, words-listing, printed}
+use Rattle.model.specs.Table.{Entry, Frame, Result, made, plans, passed-by, result, entry-words, frame-words, entries-of, frames-of}
+use Rattle.model.specs.Listing.{words-listing, printed}
 
 pub entries-back : (es : List Entry) → entries-of (entry-words es) ≡ es
 entries-back [] = refl
@@ -52,9 +54,13 @@ pub frame-words-count : (fs : List Frame) → length (frame-words fs) ≡ 3 * le
 frame-words-count [] = refl
 frame-words-count (f ∷ fs) = let r = frame-words-count fs in omega arith
 
-pub printed-words : (p : Lines) (r : Result) →
-    printed p (made r) ≡ words-listing p (r .delay) (sum (r .passed)) (entry-words (r .entries)) (frame-words (r .frames))
-unfolding printed words-listing listing passed-lines
-printed-words p r =
-    let z : sum (r .passed) + 0 ≡ sum (r .passed) = omega arith in
-    rw (entries-back (r .entries), frames-back (r .frames), z)
+-- the listing of a result with a count for each node, from its words
+pub printed-words : (p : Lines) (r : Result) → length (r .passed) ≡ length (p .slots) →
+    printed p (made r) ≡ words-listing p (r .delay) (r .passed) (entry-words (r .entries)) (frame-words (r .frames))
+unfolding printed words-listing
+printed-words p r e = rw (entries-back (r .entries), frames-back (r .frames), take-all (length (p .slots)) (r .passed) (omega arith))
+
+-- the planner keeps a count for each node
+pub counts-each : (p : Lines) → length (result p .passed) ≡ length (p .slots)
+unfolding result
+counts-each p = length-map (below (length (p .slots))) (passed-by (plans p)) ∙ length-upfrom 0 (length (p .slots))

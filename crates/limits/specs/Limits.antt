@@ -119,6 +119,10 @@ COMBINATIONNOTES = NOTED + NODES
 abbrev pub NOTES : ℕ
 NOTES = COMBINATIONS * COMBINATIONNOTES
 
+-- The most words of a plan's totals: of the table, of the frame list, the worst delay, and the count of each node.
+abbrev pub TOTALS : ℕ
+TOTALS = 3 + NODES
+
 -- "The text exceeds 16,384 bytes": the most bytes of a plan text.
 abbrev pub TEXT : ℕ
 TEXT = 16384
@@ -143,14 +147,16 @@ PRINTEDFRAMEWORDS = 3 * PRINTEDFRAMES
 abbrev pub ENTRYFRAMEWORDS : ℕ
 ENTRYFRAMEWORDS = 3 * PRINTEDENTRIES
 
--- The bytes that it lends for a listing: no listing of as many entries has more
+-- The bytes that it lends for a listing: no listing of as many entries has more. A delay has at most nine digits, a
+-- count of a node five; an entry's line has at most 104 bytes, a frame's 38, and there are no more frames than entries
 abbrev pub LISTING : ℕ
-LISTING = 426100
+LISTING = 18 + 24 * NODES + (104 + 38) * PRINTEDENTRIES
 
 -- "over 3,000 entries or 2,000 frames" (document 02, point 2): the most bytes of a listing that is of its form: a delay
--- line, a passed line, and the longest lines of an entry and of a frame, with nine digits wherever they may stand
+-- line, a passed line for each node (point 3), and the longest lines of an entry and of a frame, with nine digits
+-- wherever they may stand
 abbrev pub LISTED : ℕ
-LISTED = 18 + 19 + 111 * PRINTEDENTRIES + 53 * PRINTEDFRAMES
+LISTED = 18 + 28 * NODES + 111 * PRINTEDENTRIES + 53 * PRINTEDFRAMES
 
 -- "A program reads a plan up to the first empty line, then a listing": the bytes that it lends for both, the line feed
 -- of the empty line, and one byte more, so that a longer input is refused as its beginning is.

@@ -54,6 +54,8 @@ pub const NOTED: usize = CONDITIONS * NODES;
 pub const COMBINATIONNOTES: usize = NOTED + NODES;
 // The same of all combinations.
 pub const NOTES: usize = COMBINATIONS * COMBINATIONNOTES;
+// The most words of a plan's totals: of the table, of the frame list, the worst delay, and the count of each node.
+pub const TOTALS: usize = 3 + NODES;
 // "The text exceeds 16,384 bytes": the most bytes of a plan text.
 pub const TEXT: usize = 16384;
 // "lending 3,000 entries": the most entries of a printed table.
@@ -66,11 +68,13 @@ pub const PRINTEDWORDS: usize = 5 * PRINTEDENTRIES;
 pub const PRINTEDFRAMEWORDS: usize = 3 * PRINTEDFRAMES;
 // The words that hold the frame list of as many entries: an entry is in one frame at most.
 pub const ENTRYFRAMEWORDS: usize = 3 * PRINTEDENTRIES;
-// The bytes that it lends for a listing: no listing of as many entries has more.
-pub const LISTING: usize = 426100;
+// The bytes that it lends for a listing: no listing of as many entries has more. A delay has at most nine digits, a
+// count of a node five; an entry's line has at most 104 bytes, a frame's 38, and there are no more frames than entries.
+pub const LISTING: usize = 18 + 24 * NODES + (104 + 38) * PRINTEDENTRIES;
 // "over 3,000 entries or 2,000 frames" (document 02, point 2): the most bytes of a listing that is of its form: a delay
-// line, a passed line, and the longest lines of an entry and of a frame, with nine digits wherever they may stand.
-pub const LISTED: usize = 18 + 19 + 111 * PRINTEDENTRIES + 53 * PRINTEDFRAMES;
+// line, a passed line for each node (point 3), and the longest lines of an entry and of a frame, with nine digits
+// wherever they may stand.
+pub const LISTED: usize = 18 + 28 * NODES + 111 * PRINTEDENTRIES + 53 * PRINTEDFRAMES;
 // "A program reads a plan up to the first empty line, then a listing": the bytes that it lends for both, the line feed
 // of the empty line, and one byte more, so that a longer input is refused as its beginning is.
 pub const INPUT: usize = TEXT + 1 + LISTED + 1;

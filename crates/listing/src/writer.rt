@@ -3,6 +3,8 @@
 // the bytes unchanged; then it is stored.
 use crate::frames::put_frames;
 use crate::frames::put_totals;
+use arrays::lesser_usize;
+use limits::NODES;
 use listing_bytes::put_word;
 use listing_count::digits;
 use listing_count::exceeds;
@@ -12,7 +14,9 @@ use text_lines::Writer;
 use text_lines::filled;
 use text_lines::start;
 ghost use mathlib.Core.Path.{_≡_};
+ghost use Prim.Native.Nat.{_≤_};
 ghost use lib.ListN.{length};
+ghost use Rattle.limits.specs.Limits.{NODES};
 ghost use Rattle.model.specs.Listing.{refused-line, words-listing};
 ghost use Rattle.model.specs.Text.{bytes-after};
 ghost use Rattle.plan.specs.Memory.{lines};
@@ -28,10 +32,10 @@ pub enum Listed {
     Refused(u32),
 }
 
-// The line writer once it has the lines of the delay and of the pass-over count.
-fn totals<'a>(w: Writer<'a>, delay: u32, passed: u32) -> Writer<'a>
-    requires { ⌜ Fits (now (w .out)) (w .at) (totals-of delay passed) ⌝ }
-    ensures { λ r. ⌜ r ≡ put-on (w .entry) (totals-of delay passed) ⌝ }
+// The line writer once it has the line of the delay and the passed lines.
+fn totals<'a, 'b>(w: Writer<'a>, delay: u32, passed: &'b [u32]) -> Writer<'a>
+    requires { ⌜ Fits (now (w .out)) (w .at) (totals-of delay (now passed)) × (length (now passed) ≤ NODES) ⌝ }
+    ensures { λ r. ⌜ r ≡ put-on (w .entry) (totals-of delay (now (passed .entry))) ⌝ }
 {
     let at = w.at;
     let end = put_totals(&mut *w.out, at, delay, passed);
@@ -80,13 +84,14 @@ fn put_listing<'a>(
     edges: usize,
     conditions: usize,
     delay: u32,
-    passed: u32,
+    passed: &'a [u32],
     table: &'a [u32],
     list: &'a [u32],
 ) -> usize
-    requires { ⌜ Fits (now out) 0 (listing-of processes edges conditions delay passed (now table) (now list)) ⌝ }
-    ensures { λ r. ⌜ Put (now (out .entry)) (now (out .exit)) 0 r
-        (listing-of processes edges conditions delay passed (now (table .entry)) (now (list .entry))) ⌝ }
+    requires { ⌜ Fits (now out) 0 (listing-of processes edges conditions delay (now passed) (now table) (now list))
+        × (length (now passed) ≤ NODES) ⌝ }
+    ensures { λ r. ⌜ Put (now (out .entry)) (now (out .exit)) 0 r (listing-of processes edges conditions delay
+        (now (passed .entry)) (now (table .entry)) (now (list .entry))) ⌝ }
 {
     filled(frames(
         entries(
@@ -109,22 +114,26 @@ pub fn put_refusal(out: &mut [u8], number: u32) -> usize
     put_word(out, end, b")\n")
 }
 
-// Writes the listing of a table and a frame list, for a plan, a worst delay and a pass-over count, to the front of the
-// lent bytes.
-// Refusal 10 leaves the bytes unchanged. A row that the plan lacks has no line, and stray last words are ignored.
-pub fn write_listing<'a>(
+// Writes the listing of a table and a frame list to the front of the lent bytes, where the pass-over counts of the
+// plan's nodes stand at the front of as many words as a plan may have nodes: a part of an array that is lent is taken
+// where it is lent as a slice.
+fn write_counted<'a>(
     p: Plan,
     delay: u32,
-    passed: u32,
+    passed: &'a [u32],
     table: &'a [u32],
     frames: &'a [u32],
     out: &mut [u8],
 ) -> Listed
+    requires { ⌜ length (now passed) ≡ NODES ⌝ }
     ensures answer { λ r. ⌜ r ≡ answer-of (written-of (length (now (out .entry)))
-        (words-listing (lines p) delay passed (now (table .entry)) (now (frames .entry)))) ⌝ }
+        (words-listing (lines p) delay (now (passed .entry)) (now (table .entry)) (now (frames .entry)))) ⌝ }
     ensures bytes { λ r. ⌜ now (out .exit) ≡ bytes-after (written-of (length (now (out .entry)))
-        (words-listing (lines p) delay passed (now (table .entry)) (now (frames .entry)))) (now (out .entry)) ⌝ }
+        (words-listing (lines p) delay (now (passed .entry)) (now (table .entry)) (now (frames .entry))))
+        (now (out .entry)) ⌝ }
 {
+    let nodes = lesser_usize(p.slots, NODES);
+    let counts = &passed[..nodes];
     let processes = p.processes;
     let edges = p.edges;
     let conditions = p.conditions;
@@ -134,7 +143,7 @@ pub fn write_listing<'a>(
         edges,
         conditions,
         delay,
-        passed,
+        counts,
         table,
         frames,
     ) {
@@ -146,10 +155,30 @@ pub fn write_listing<'a>(
         edges,
         conditions,
         delay,
-        passed,
+        counts,
         table,
         frames,
     ))
+}
+
+// Writes the listing of a table and a frame list, for a plan, a worst delay and the pass-over counts of the plan's
+// nodes, which stand at the front of `passed`, to the front of the lent bytes.
+// Refusal 10 leaves the bytes unchanged. A row that the plan lacks has no line, and stray last words are ignored.
+pub fn write_listing<'a>(
+    p: Plan,
+    delay: u32,
+    passed: &'a [u32; NODES],
+    table: &'a [u32],
+    frames: &'a [u32],
+    out: &mut [u8],
+) -> Listed
+    ensures answer { λ r. ⌜ r ≡ answer-of (written-of (length (now (out .entry)))
+        (words-listing (lines p) delay (now (passed .entry)) (now (table .entry)) (now (frames .entry)))) ⌝ }
+    ensures bytes { λ r. ⌜ now (out .exit) ≡ bytes-after (written-of (length (now (out .entry)))
+        (words-listing (lines p) delay (now (passed .entry)) (now (table .entry)) (now (frames .entry))))
+        (now (out .entry)) ⌝ }
+{
+    write_counted(p, delay, passed, table, frames, out)
 }
 
 // Writes the line of a refusal to the front of the lent bytes. Refusal 10 leaves the bytes unchanged.

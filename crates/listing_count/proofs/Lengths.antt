@@ -12,7 +12,7 @@ use lib.ListN.{length, length-append}
 use Rattle.lists.proofs.Tests.{two}
 use Rattle.model.specs.Text.{text, decimal}
 use Rattle.text_lines.specs.Label.{labelled}
-use Rattle.listing_count.specs.Parts.{values-from, column-of, start-of, item-of, entries-text, frame-of, frames-text, totals-of, listing-of}
+use Rattle.listing_count.specs.Parts.{values-from, column-of, start-of, item-of, entries-text, frame-of, frames-text, passed-of, passed-text, totals-of, listing-of}
 
 pub false-length : (k : ℕ) → length (labelled " (false " k ++ text ")") ≡ 9 + length (decimal k)
 false-length k = simp length-append (omega arith)
@@ -41,24 +41,28 @@ pub frame-length : (tick node used : ℕ) → length (frame-of tick node used) �
 unfolding frame-of
 frame-length tick node used = simp length-append (omega arith)
 
-pub totals-length : (delay passed : ℕ) → length (totals-of delay passed) ≡ 19 + length (decimal delay) + length (decimal passed)
-unfolding totals-of
-totals-length delay passed = simp length-append (omega arith)
+pub passed-length : (node count : ℕ) → length (passed-of node count) ≡ 18 + length (decimal node) + length (decimal count)
+unfolding passed-of
+passed-length node count = simp length-append (omega arith)
 
-pub listing-length : (processes edges conditions delay passed : ℕ) (table frames : List ℕ) →
-    length (listing-of processes edges conditions delay passed table frames)
-    ≡ 19 + length (decimal delay) + length (decimal passed) + (length (entries-text processes edges conditions table) + length (frames-text frames))
+pub totals-length : (delay : ℕ) (counts : List ℕ) → length (totals-of delay counts) ≡ 9 + length (decimal delay) + length (passed-text 0 counts)
+unfolding totals-of
+totals-length delay counts = simp length-append (omega arith)
+
+pub listing-length : (processes edges conditions delay : ℕ) (counts table frames : List ℕ) →
+    length (listing-of processes edges conditions delay counts table frames)
+    ≡ 9 + length (decimal delay) + length (passed-text 0 counts) + (length (entries-text processes edges conditions table) + length (frames-text frames))
 unfolding listing-of
-listing-length processes edges conditions delay passed table frames =
+listing-length processes edges conditions delay counts table frames =
     let es = entries-text processes edges conditions table in
     let fs = frames-text frames in
-    omega (arith, length-append (totals-of delay passed) (es ++ fs), length-append es fs, totals-length delay passed)
+    omega (arith, length-append (totals-of delay counts) (es ++ fs), length-append es fs, totals-length delay counts)
 
 -- a room of the bytes lent and one more, from which a text's parts are taken: it is used up where the text needs more
 -- bytes than are lent
-pub used-up : (lent totals a b : ℕ) → totals ≤ lent → ltb (lent - totals + 1 - a - b) 1 ≡ ltb lent (totals + (a + b))
-used-up lent totals a b h = at (two (ltb lent (totals + (a + b))))
+pub used-up : (lent first a b c : ℕ) → first ≤ lent → ltb (lent - first + 1 - a - b - c) 1 ≡ ltb lent (first + a + (b + c))
+used-up lent first a b c h = at (two (ltb lent (first + a + (b + c))))
   where
-    at : (ltb lent (totals + (a + b)) ≡ true) ⊎ (ltb lent (totals + (a + b)) ≡ false) → ltb (lent - totals + 1 - a - b) 1 ≡ ltb lent (totals + (a + b))
-    at (inl e) = let l = ltb-true lent (totals + (a + b)) e in lt-ltb (lent - totals + 1 - a - b) 1 (omega arith) ∙ sym e
-    at (inr e) = let l = ltb-false lent (totals + (a + b)) e in le-ltb (lent - totals + 1 - a - b) 1 (omega arith) ∙ sym e
+    at : (ltb lent (first + a + (b + c)) ≡ true) ⊎ (ltb lent (first + a + (b + c)) ≡ false) → ltb (lent - first + 1 - a - b - c) 1 ≡ ltb lent (first + a + (b + c))
+    at (inl e) = let l = ltb-true lent (first + a + (b + c)) e in lt-ltb (lent - first + 1 - a - b - c) 1 (omega arith) ∙ sym e
+    at (inr e) = let l = ltb-false lent (first + a + (b + c)) e in le-ltb (lent - first + 1 - a - b - c) 1 (omega arith) ∙ sym e

@@ -10,17 +10,17 @@ use native.Mathlib.Nat.{pow-suc, div-div-eq-div-mul, div-one}
 use native.Mathlib.Omega.{arith}
 use borrow.Author.Tests.{ltb-true, ltb-false, eqb-true, eqb-false, lt-ltb, le-ltb, eq-eqb, ne-eqb}
 use lib.Dec.{eqb, ltb}
-use lib.ListN.{length, length-append}
+use lib.ListN.{length, length-append, take}
 use Rattle.lists.specs.Lists.{if_then_else_, each, below, upfrom}
 use Rattle.lists.proofs.Joined.{regroup, each-equal}
 use Rattle.lists.proofs.Tests.{two}
 use Rattle.model.specs.Plan.{Lines}
 use Rattle.model.specs.Table.{Entry, Frame, entries-of, frames-of}
 use Rattle.model.specs.Text.{text, decimal, field}
-use Rattle.model.specs.Listing.{bit, value-text, column-text, place-text, entry-line, frame-line, refused-line, passed-lines, listing, words-listing}
+use Rattle.model.specs.Listing.{bit, value-text, column-text, place-text, entry-line, frame-line, refused-line, passed-line, passed-lines, listing, words-listing}
 use Rattle.text_lines.specs.Label.{labelled}
 use Rattle.text_lines.proofs.Fields.{field-then}
-use Rattle.listing_count.specs.Parts.{value-at, values-from, column-of, start-of, item-of, entry-of, entry-text, frame-of, frame-text, totals-of, listing-of}
+use Rattle.listing_count.specs.Parts.{value-at, values-from, column-of, start-of, item-of, entry-of, entry-text, frame-of, frame-text, passed-of, passed-text, totals-of, listing-of}
 
 -- a bit is 1 where it is not 0
 odd : (m : ℕ) → eqb (m % 2) 1 ≡ not (eqb (m % 2) 0)
@@ -146,18 +146,32 @@ refused-parts n = ap (λ (s : List ℕ). text "(refused " ++ s) (append-assoc (d
 pub refused-length : (n : ℕ) → length (refused-line n) ≡ 11 + length (decimal n)
 refused-length n = omega (arith, ap length (refused-parts n), length-append (labelled "(refused " n) (text ")\n"))
 
-totals-same : (delay passed : ℕ) → field "delay" delay ++ text "\n" ++ passed-lines (passed ∷ []) ≡ totals-of delay passed
-unfolding passed-lines totals-of
-totals-same delay passed =
-    let z : passed + 0 ≡ passed = omega arith in
-    regroup (field "delay" delay) (text "\n" ∷ (field "passed" (passed + 0) ++ text "\n") ∷ [])
-    ∙ rw (z, append-nil (field "passed" passed ++ text "\n"), field-then "delay" delay, field-then "passed" passed)
+pub passed-line-same : (n count : ℕ) → passed-line n count ≡ passed-of n count
+unfolding passed-line passed-of
+passed-line-same n count = regroup (text "(passed ") (field "node" n ∷ text " " ∷ decimal count ∷ text ")\n" ∷ []) ∙ rw (field-then "node" n, append-nil (text ")\n")) (parts (labelled "(passed (node " n) (decimal count))
+  where
+    parts : (a b : List ℕ) → a ++ (text ") " ++ (b ++ text ")\n")) ≡ a ++ ((text ") " ++ b) ++ text ")\n")
+    parts a b = simp append-assoc
 
-pub listing-same : (p : Lines) (delay passed : ℕ) (table frames : List ℕ) →
-    words-listing p delay passed table frames ≡ listing-of (length (p .processes)) (length (p .edges)) (length (p .conditions)) delay passed table frames
+pub passed-same : (n : ℕ) (counts : List ℕ) → passed-lines n counts ≡ passed-text n counts
+unfolding passed-lines passed-text
+passed-same n [] = refl
+passed-same n (count ∷ counts) = λ i. passed-line-same n count i ++ passed-same (suc n) counts i
+
+totals-same : (delay : ℕ) (counts : List ℕ) → field "delay" delay ++ text "\n" ++ passed-lines 0 counts ≡ totals-of delay counts
+unfolding totals-of field
+totals-same delay counts = rw (passed-same 0 counts) (parts (labelled "(delay " delay) (passed-text 0 counts))
+  where
+    parts : (a c : List ℕ) → ((a ++ text ")") ++ text "\n") ++ c ≡ a ++ (text ")\n" ++ c)
+    parts a c = simp append-assoc
+
+pub listing-same : (p : Lines) (delay : ℕ) (words table frames : List ℕ) →
+    words-listing p delay words table frames
+    ≡ listing-of (length (p .processes)) (length (p .edges)) (length (p .conditions)) delay (take (length (p .slots)) words) table frames
 unfolding words-listing listing listing-of
-listing-same p delay passed table frames =
+listing-same p delay words table frames =
+    let counts = take (length (p .slots)) words in
     let es = each (entry-line p) (entries-of table) in
     let fs = each frame-line (frames-of frames) in
-    rw (totals-same delay passed, ← each-equal (entry-same p) (entries-of table), ← each-equal frame-same (frames-of frames))
-    (append-assoc (totals-of delay passed) es fs)
+    rw (totals-same delay counts, ← each-equal (entry-same p) (entries-of table), ← each-equal frame-same (frames-of frames))
+    (append-assoc (totals-of delay counts) es fs)

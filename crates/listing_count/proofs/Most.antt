@@ -6,6 +6,7 @@ use mathlib.Core.Bool.{true, false}
 use mathlib.Core.Logic.{_⊎_, inl, inr}
 use mathlib.Core.List.{List, [], _∷_}
 use Prim.Native.Nat.{ℕ, zero, suc, _+_, _-_, _*_, _/_, _%_, _^_, _≤_, _<_}
+use native.Mathlib.Nat.{mul-suc}
 use native.Mathlib.Omega.{arith}
 use borrow.Author.Tests.{ltb-true, ltb-false, eqb-true, eqb-false}
 use lib.Dec.{eqb, ltb}
@@ -13,10 +14,10 @@ use lib.ListN.{length, length-append, getD}
 use Rattle.lists.proofs.Tests.{two}
 use Rattle.model.specs.Text.{text}
 use Rattle.text_grammar.proofs.Numbers.{decimal-length}
-use Rattle.listing_count.specs.Parts.{value-at, values-from, item-of, entry-of, entries-text, frame-of, frames-text, listing-of, most-bytes}
+use Rattle.listing_count.specs.Parts.{value-at, values-from, item-of, entry-of, entries-text, frame-of, frames-text, passed-of, passed-text, listing-of, most-bytes}
 use Rattle.listing_count.proofs.DigitCounts.{one-digit}
 use Rattle.listing_count.proofs.Cases.{value-none, value-false, value-true, entry-start, entry-send, entry-tell, entry-none}
-use Rattle.listing_count.proofs.Lengths.{false-length, true-length, start-length, item-length, frame-length, listing-length}
+use Rattle.listing_count.proofs.Lengths.{passed-length, false-length, true-length, start-length, item-length, frame-length, listing-length}
 
 -- a condition of a column, and n of them
 value-most : (known values k : ℕ) → k < 10 → length (value-at known values k) ≤ 10
@@ -123,16 +124,25 @@ frames-most (a ∷ b ∷ c ∷ words) h =
       frames-most words (λ i. h (suc (suc (suc i)))),
     )
 
+-- the passed lines of at most ten nodes, with counts of at most d + 1 digits
+pub passed-most : (d n : ℕ) (counts : List ℕ) → n + length counts ≤ 10 → ((i : ℕ) → getD counts i 0 < 10 ^ suc d) → length (passed-text n counts) ≤ (20 + d) * length counts
+unfolding passed-text
+passed-most d n [] l h = omega arith
+passed-most d n (count ∷ counts) l h =
+    let r : length (passed-text (suc n) counts) ≤ (20 + d) * length counts = passed-most d (suc n) counts (omega arith) (λ i. h (suc i)) in
+    let m : (20 + d) * suc (length counts) ≡ (20 + d) * length counts + (20 + d) = mul-suc (20 + d) (length counts) in
+    omega (arith, length-append (passed-of n count) (passed-text (suc n) counts), passed-length n count, one-digit n (omega arith), decimal-length d count (h 0), r, m)
+
 -- the whole listing
-pub listing-most : (processes edges conditions delay passed : ℕ) (table frames : List ℕ) → conditions ≤ 6 → delay < 10000000000 → passed < 10000000000 → Ten-digits table →
-    Ten-digits frames → length (listing-of processes edges conditions delay passed table frames) ≤ most-bytes (length table) (length frames)
+pub listing-most : (processes edges conditions delay : ℕ) (counts table frames : List ℕ) → conditions ≤ 6 → delay < 10000000000 → length counts ≤ 8 → Ten-digits counts → Ten-digits table →
+    Ten-digits frames → length (listing-of processes edges conditions delay counts table frames) ≤ most-bytes (length table) (length frames)
 unfolding most-bytes
-listing-most processes edges conditions delay passed table frames l d m h k =
+listing-most processes edges conditions delay counts table frames l d few m h k =
     omega (
       arith,
-      listing-length processes edges conditions delay passed table frames,
+      listing-length processes edges conditions delay counts table frames,
       decimal-length 9 delay d,
-      decimal-length 9 passed m,
+      passed-most 9 0 counts (omega arith) m,
       entries-most processes edges conditions l table h,
       frames-most frames k,
     )

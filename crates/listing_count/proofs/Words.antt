@@ -1,13 +1,16 @@
--- The entries and frames of words, read from a place on: the next one, and none where too few words are left.
+-- The entries and frames of words, and the counts of nodes, read from a place on: the next one, and none where too few
+-- words are left.
 -- Assumes nothing.
 use mathlib.Core.Path.{_≡_, refl, ap, _∙_}
 use mathlib.Core.List.{List, [], _∷_, _++_}
-use Prim.Native.Nat.{ℕ, _+_, _-_, _≤_, _<_}
+use Prim.Native.Nat.{ℕ, suc, _+_, _-_, _≤_, _<_}
 use native.Mathlib.Omega.{arith}
-use lib.ListN.{length, getD, drop, length-drop}
+use lib.ListN.{length, getD, drop, length-drop, drop-of-length-le}
 use lib.Seq.{getD-drop, drop-drop}
 use Rattle.lists.specs.Lists.{each}
+use Rattle.lists.proofs.Parts.{drop-one}
 use Rattle.model.specs.Table.{Entry, Frame, entries-of, frames-of}
+use Rattle.listing_count.specs.Parts.{passed-of, passed-text}
 
 entries-next : (ws : List ℕ) → 5 ≤ length ws →
     entries-of ws ≡ record { row = getD ws 0 0; known = getD ws 1 0; values = getD ws 2 0; tick = getD ws 3 0; place = getD ws 4 0 } ∷ entries-of (drop 5 ws)
@@ -69,3 +72,14 @@ module _ (ws : List ℕ) (i : ℕ) where
 
   pub frames-end : (f : Frame → List ℕ) → (2 < length ws - i → ⊥) → each f (frames-of (drop i ws)) ≡ []
   frames-end f h = ap (each f) (frames-none (drop i ws) (omega (arith, length-drop i ws)))
+
+-- the passed lines of the counts from place i on, which are those from node i on
+pub counts-at : (ws : List ℕ) (i : ℕ) → i < length ws → passed-text i (drop i ws) ≡ passed-of i (getD ws i 0) ++ passed-text (i + 1) (drop (i + 1) ws)
+unfolding passed-text
+counts-at ws i h =
+    let q : suc i ≡ i + 1 = omega arith in
+    ap (passed-text i) (drop-one ws i h) ∙ ap (λ (m : ℕ). passed-of i (getD ws i 0) ++ passed-text m (drop (i + 1) ws)) q
+
+pub counts-end : (ws : List ℕ) (i : ℕ) → length ws ≤ i → passed-text i (drop i ws) ≡ []
+unfolding passed-text
+counts-end ws i h = ap (passed-text i) (drop-of-length-le ws {i = i} h)

@@ -2,7 +2,7 @@
 -- plan and the words of a table and a frame list. proofs/Lines.antt shows that they are the lines of document 01.
 -- Assumes nothing.
 use Prim.Native.Nat.{ℕ, zero, suc, _+_, _-_, _*_, _/_, _%_}
-use mathlib.Core.List.{List, [], _++_}
+use mathlib.Core.List.{List, [], _∷_, _++_}
 use lib.Dec.{eqb, ltb}
 use Rattle.lists.specs.Lists.{if_then_else_, each}
 use Rattle.model.specs.Text.{text, decimal}
@@ -60,16 +60,23 @@ frame-text f = frame-of (f .tick) (f .node) (f .used)
 abbrev pub frames-text : List ℕ → List ℕ
 frames-text frames = each frame-text (frames-of frames)
 
--- the lines of the delay and of the pass-over count
-unfoldable pub totals-of : ℕ → ℕ → List ℕ
-totals-of delay passed = labelled "(delay " delay ++ (labelled ")\n(passed " passed ++ text ")\n")
+-- the passed line of a node, the lines of some counts from node n on, and the line of the delay in front of them
+unfoldable pub passed-of : ℕ → ℕ → List ℕ
+passed-of node count = labelled "(passed (node " node ++ (labelled ") " count ++ text ")\n")
+
+unfoldable pub passed-text : ℕ → List ℕ → List ℕ
+passed-text n [] = []
+passed-text n (count ∷ counts) = passed-of n count ++ passed-text (suc n) counts
+
+unfoldable pub totals-of : ℕ → List ℕ → List ℕ
+totals-of delay counts = labelled "(delay " delay ++ (text ")\n" ++ passed-text 0 counts)
 
 -- the whole listing
-unfoldable pub listing-of : ℕ → ℕ → ℕ → ℕ → ℕ → List ℕ → List ℕ → List ℕ
-listing-of processes edges conditions delay passed table frames =
-    totals-of delay passed ++ (entries-text processes edges conditions table ++ frames-text frames)
+unfoldable pub listing-of : ℕ → ℕ → ℕ → ℕ → List ℕ → List ℕ → List ℕ → List ℕ
+listing-of processes edges conditions delay counts table frames =
+    totals-of delay counts ++ (entries-text processes edges conditions table ++ frames-text frames)
 
--- the most bytes of a listing of so many words, for a plan of at most six conditions: of the first two lines, of each
--- entry's line and of each frame's line
+-- the most bytes of a listing of so many words, for a plan of at most six conditions: of the lines of the delay and of
+-- eight nodes, of each entry's line and of each frame's line
 unfoldable pub most-bytes : ℕ → ℕ → ℕ
-most-bytes words framewords = 39 + 120 * (words / 5) + 56 * (framewords / 3)
+most-bytes words framewords = 251 + 120 * (words / 5) + 56 * (framewords / 3)

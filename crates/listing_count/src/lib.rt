@@ -9,9 +9,10 @@ ghost use mathlib.Core.Path.{_≡_};
 ghost use Prim.Native.Nat.{_-_, _≤_};
 ghost use lib.Dec.{ltb};
 ghost use lib.ListN.{length};
+ghost use Rattle.limits.specs.Limits.{NODES};
 ghost use Rattle.model.specs.Text.{text, decimal};
 ghost use Rattle.listing_count.specs.Parts.{value-at, values-from, start-of, item-of, entry-of, entries-text};
-ghost use Rattle.listing_count.specs.Parts.{frame-of, frames-text, listing-of};
+ghost use Rattle.listing_count.specs.Parts.{frame-of, frames-text, passed-of, passed-text, listing-of};
 ghost use Rattle.listing_count.specs.Ample.{ample};
 
 // How many decimal digits a number has.
@@ -193,9 +194,31 @@ fn frames_room(room: usize, frames: &[u32]) -> usize
     left
 }
 
-// The lent bytes suffice for any listing of so many words, at most a million of each kind, for a plan of at most six
-// conditions: an entry's line has at most 120 bytes, a frame's at most 56, the first two lines at most 39. Where this
-// answers no they may suffice all the same.
+// The room after the passed line of a node.
+fn count_room(room: usize, node: u32, count: u32) -> usize
+    ensures { λ r. ⌜ r ≡ room - length (passed-of node count) ⌝ }
+{
+    difference_usize(room, 18 + digits(node) + digits(count))
+}
+
+// The room after the passed lines of the nodes that these are the counts of, from node 0 on.
+fn passed_room(room: usize, passed: &[u32]) -> usize
+    requires { ⌜ length (now passed) ≤ NODES ⌝ }
+    ensures { λ r. ⌜ r ≡ room - length (passed-text 0 (now (passed .entry))) ⌝ }
+{
+    let n = passed.len();
+    let mut left = room;
+    let mut i: usize = 0;
+    while i < n {
+        left = count_room(left, i as u32, passed[i]);
+        i += 1;
+    }
+    left
+}
+
+// The lent bytes suffice for any listing of so many words, at most a million of each kind, for a plan of at most eight
+// nodes and six conditions: an entry's line has at most 120 bytes, a frame's at most 56, the line of the delay at most
+// 19, that of a node at most 29. Where this answers no they may suffice all the same.
 fn suffice(lent: usize, conditions: usize, words: usize, framewords: usize) -> bool
     ensures { λ r. ⌜ r ≡ ample lent conditions words framewords ⌝ }
 {
@@ -208,33 +231,38 @@ fn suffice(lent: usize, conditions: usize, words: usize, framewords: usize) -> b
     if 1000000 < framewords {
         return false;
     }
-    if lent < 39 + 120 * (words / 5) + 56 * (framewords / 3) {
+    if lent < 251 + 120 * (words / 5) + 56 * (framewords / 3) {
         return false;
     }
     true
 }
 
-// A listing needs more bytes than are lent.
+// A listing needs more bytes than are lent. It has a passed line for each of the counts.
 pub fn exceeds<'a>(
     lent: usize,
     processes: usize,
     edges: usize,
     conditions: usize,
     delay: u32,
-    passed: u32,
+    passed: &'a [u32],
     table: &'a [u32],
     frames: &'a [u32],
 ) -> bool
-    ensures { λ r. ⌜ r ≡ ltb lent (length (listing-of processes edges conditions delay passed (now (table .entry))
-        (now (frames .entry)))) ⌝ }
+    requires { ⌜ length (now passed) ≤ NODES ⌝ }
+    ensures { λ r. ⌜ r ≡ ltb lent (length (listing-of processes edges conditions delay (now (passed .entry))
+        (now (table .entry)) (now (frames .entry)))) ⌝ }
 {
     if suffice(lent, conditions, table.len(), frames.len()) {
         return false;
     }
-    let totals = 19 + digits(delay) + digits(passed);
-    if lent < totals {
+    let first = 9 + digits(delay);
+    if lent < first {
         return true;
     }
-    let room = entries_room(lent - totals + 1, processes, edges, conditions, table);
-    frames_room(room, frames) < 1
+    let room = passed_room(lent - first + 1, passed);
+    frames_room(
+        entries_room(room, processes, edges, conditions, table),
+        frames,
+    )
+        < 1
 }

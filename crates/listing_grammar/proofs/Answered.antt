@@ -16,7 +16,7 @@ use Rattle.model.specs.Table.{Entry, Result, key, made, result, frames, entry-w
 use Rattle.model.specs.Checking.{table-refusal, check, Sound}
 use Rattle.model.specs.Text.{print, Reading, reads, after-refusal, Answers-text, too-long, of-no-form, of-form}
 use Rattle.model.specs.Listing.{listing, printed}
-use Rattle.model.specs.ListingText.{pass-overs, plan-part, listing-part, Listed, listed, not-listed, States, Answers-listing, no-listing, a-listing, listed-refusal, stated-refusal, Checks-listing, by-plan, by-listing, Checks-texts, no-plan, a-plan, Checks-input}
+use Rattle.model.specs.ListingText.{plan-part, listing-part, Listed, listed, not-listed, States, Answers-listing, no-listing, a-listing, listed-refusal, stated-refusal, Checks-listing, by-plan, by-listing, Checks-texts, no-plan, a-plan, Checks-input}
 use Rattle.laws.proofs.Accepted.{Accepted, accepted, accepts}
 use Rattle.laws.proofs.Good.{or-nothing}
 use Rattle.laws.proofs.Sound.{sound-iff}
@@ -28,7 +28,7 @@ use Rattle.text_grammar.proofs.Answers.{answers-unique, written-read}
 use Rattle.listing_grammar.specs.Parse.{Read, no-reading, read}
 use Rattle.listing_grammar.specs.Cases.{answer-listing, answer-plan, check-input}
 use Rattle.listing_grammar.proofs.Whole.{reading, states-read, read-states, states-unique, listing-unique}
-use Rattle.listing_grammar.proofs.Tables.{ascending-rows, listed-table, table-states, table-accepted, shown, own-states, own-accepted}
+use Rattle.listing_grammar.proofs.Tables.{ascending-rows, listed-table, table-states, table-accepted, own-states, own-accepted}
 use Rattle.listing_grammar.proofs.Splitting.{plan-first, listing-next}
 
 -- a refusal is not none
@@ -131,7 +131,7 @@ module _ (p : Lines) (fine : plan-refusal p ≡ nothing) (few-entries : length (
   unfolding listed-refusal
   own-checks =
       subst (Checks-listing p own) (own-accepted p fine few-entries few-frames)
-      (by-listing (listed (shown p fine)) fine (a-listing (shown p fine) (own-states p fine few-entries few-frames)))
+      (by-listing (listed (result p)) fine (a-listing (result p) (own-states p fine few-entries few-frames)))
 
   pub own-input : Checks-input (print p ++ (10 ∷ own)) nothing
   own-input =
@@ -141,14 +141,14 @@ module _ (p : Lines) (fine : plan-refusal p ≡ nothing) (few-entries : length (
 -- "A printed table read and printed again is byte for byte the same": an accepted listing printed again from its
 -- entries, its delay and its plan, in whatever order the lines of a row stand.
 pub printed-again : {bytes : List ℕ} {p : Lines} {r : Result} → States p bytes r → Accepted p r →
-    listing p (r .delay) (pass-overs p) (r .entries) (frames p (r .entries)) ≡ bytes
-printed-again {p = p} {r = r} m a = (λ i. listing p (r .delay) (sym (a .its-count) i) (r .entries) (sym (a .its-frames) i)) ∙ m .prints
+    listing p (r .delay) (result p .passed) (r .entries) (frames p (r .entries)) ≡ bytes
+printed-again {p = p} {r = r} m a = (λ i. listing p (r .delay) (sym (a .its-counts) i) (r .entries) (sym (a .its-frames) i)) ∙ m .prints
 
 -- A sound table in the planner's order, printed and read, is read as that table.
 pub table-reread : (p : Lines) (ws : List ℕ) (stated : ℕ) → plan-refusal p ≡ nothing → Sound p ws stated →
     ((e : Entry) → In e (entries-of ws) → e .values < 2 ^ 32) → stated < 1000000000 → Ascending key (entries-of ws) →
     length (entries-of ws) ≤ 3000 → length (frames p (entries-of ws)) ≤ 2000 →
-    (r : Result) → States p (listing p stated (pass-overs p) (entries-of ws) (frames p (entries-of ws))) r →
+    (r : Result) → States p (listing p stated (result p .passed) (entries-of ws) (frames p (entries-of ws))) r →
     (entry-words (r .entries) ≡ ws) × (r .delay ≡ stated) × (stated-refusal p r ≡ nothing)
 table-reread p ws stated fine sound word nine ascends few-entries few-frames r m =
     let ordered = ascending-rows 0 (entries-of ws) (λ e m. omega arith) ascends in

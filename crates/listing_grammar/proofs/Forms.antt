@@ -6,8 +6,8 @@ use mathlib.Core.Logic.{_⊎_}
 use mathlib.Core.List.{List, [], _∷_, _++_, append-assoc}
 use Prim.Native.Nat.{ℕ, _+_, _-_, _≤_, _<_}
 use native.Mathlib.Omega.{arith}
-use borrow.Author.Tests.{ltb-true, lt-ltb}
-use lib.Dec.{ltb}
+use borrow.Author.Tests.{ltb-true, lt-ltb, eqb-true, eq-eqb}
+use lib.Dec.{eqb, ltb}
 use Rattle.lists.specs.Lists.{if_then_else_, all}
 use Rattle.lists.proofs.Tests.{both, join}
 use Rattle.model.specs.Text.{text, decimal, short}
@@ -16,9 +16,9 @@ use Rattle.model.specs.ListingText.{entry-numbers, frame-numbers}
 use Rattle.text_grammar.specs.Parse.{none, got, and-then, or, word-at, field-at, closed-at}
 use Rattle.text_grammar.proofs.Numbers.{ended, bracketed}
 use Rattle.text_grammar.proofs.Inverse.{Reads, Inverse, told-as, whole, guarded, known-first, first, made, one-of, word-reads, number-to-reads, field-reads, closed-reads}
-use Rattle.listing_count.specs.Parts.{values-from, column-of, start-of, item-of, entry-text, frame-of, frame-text}
+use Rattle.listing_count.specs.Parts.{values-from, column-of, start-of, item-of, entry-text, frame-of, frame-text, passed-of}
 use Rattle.listing_count.proofs.Cases.{entry-start, entry-send, entry-tell}
-use Rattle.listing_grammar.specs.Parse.{Column, made-entry, column-at, numbered-at, start-at, item-at, entry-at, frame-at}
+use Rattle.listing_grammar.specs.Parse.{Column, made-entry, column-at, numbered-at, start-at, item-at, entry-at, frame-at, count-at}
 use Rattle.listing_grammar.proofs.Columns.{Fits, when-text, column-reads}
 
 -- numbers of at most nine digits
@@ -215,3 +215,24 @@ frame-reads =
     made (closed-reads (text " (bytes ") (text ")\n")) (λ b. record { tick = t; node = n; used = b }) (λ b. refl) (λ b. refl))))
     (λ f. (f .used, refl))
     (λ f. frame-regroup (decimal (f .tick)) (decimal (f .node)) (decimal (f .used)))
+
+-- a passed line is put together in another way than it is taken apart
+passed-regroup : (n c : List ℕ) → ((text "(passed (node " ++ (n ++ text ")")) ++ text " ") ++ ((c ++ text ")") ++ text "\n") ≡ (text "(passed (node " ++ n) ++ ((text ") " ++ c) ++ text ")\n")
+passed-regroup n c = simp append-assoc
+
+-- the passed line of a node, whose number has at most nine digits
+pub count-reads : (n : ℕ) → n < 1000000000 → Inverse (count-at n) (passed-of n) (λ c. c ∷ [])
+unfolding count-at passed-of
+count-reads n l =
+    told-as
+    (first (closed-reads (text "(passed (node ") (text " "))
+    {next = λ m r. if eqb m n then closed-at [] (text "\n") r else none}
+    {Known = λ m c. (eqb m n ≡ true) × Unit {0}}
+    {line = λ c. ([] ++ bracketed c) ++ text "\n"}
+    {numbers = λ c. c ∷ []}
+    (λ c. n)
+    (λ m c known. eqb-true m n (known .0))
+    (λ m. guarded (eqb m n) (closed-reads [] (text "\n"))))
+    (λ c known h. ((eq-eqb n n refl, tt), join (short n) (all short (c ∷ [])) (small-short n l) h))
+    (λ c known h. (tt, both (short n) (all short (c ∷ [])) h .1))
+    (λ c known. passed-regroup (decimal n) (decimal c))

@@ -6,3 +6,4 @@ pub mod Tables
 pub mod Splitting
 pub mod Answered
 pub mod Longer
+pub mod PassedLines

@@ -4,18 +4,17 @@
 use mathlib.Core.Path.{_≡_, refl, ap, sym, subst, _∙_}
 use mathlib.Core.Bool.{Bool, true, false, not}
 use mathlib.Core.List.{List, [], _∷_, _++_, map, List·Memᴰ as In, List·Memᴰ·head as here, List·Memᴰ·tail as there}
-use Prim.Native.Nat.{ℕ, _+_, _^_, _≤_, _<_}
+use Prim.Native.Nat.{ℕ, _^_, _≤_, _<_}
 use native.Mathlib.Nat.{pow-le-pow-right}
 use native.Mathlib.Omega.{arith}
 use borrow.Author.Tests.{ltb-true, ltb-false, le-leb, eqb-true, not-true}
 use lib.Dec.{eqb, leb, ltb}
 use lib.ListN.{length}
-use Rattle.lists.specs.Lists.{if_then_else_, all, each, keep, below, sum}
+use Rattle.lists.specs.Lists.{if_then_else_, all, each, keep, below}
 use Rattle.lists.specs.Ordered.{Order, less, same, more, order, put, put-all, Ascending}
 use Rattle.lists.proofs.Tests.{join}
 use Rattle.lists.proofs.Members.{in-all, map-in, keep-in, all-joined, all-each}
-use Rattle.lists.proofs.Keep.{length-upfrom}
-use Rattle.lists.proofs.Sums.{sum-most-in, greatest-le}
+use Rattle.lists.proofs.Sums.{greatest-le}
 use Rattle.model.specs.Plan.{Lines, edge, local}
 use Rattle.model.specs.Bus.{is-process, is-edge, sender, row-node, row-bytes, row-edge}
 use Rattle.model.specs.Log.{delay, full-ticks}
@@ -24,8 +23,8 @@ use Rattle.model.specs.Refusals.{nothing, plan-refusal}
 use Rattle.model.specs.Table.{Entry, Frame, Result, made, plans, key, value-bits, known-bits, entry-of, frame-of, frame-key, wider, frames, passed-by, result, entry-words, entries-of}
 use Rattle.model.specs.Checking.{Sound}
 use Rattle.model.specs.Text.{short}
-use Rattle.model.specs.Listing.{listing, printed, passed-lines}
-use Rattle.model.specs.ListingText.{listable, rows-in-order, entry-numbers, frame-numbers, listing-numbers, pass-overs, States, stated-refusal}
+use Rattle.model.specs.Listing.{listing, printed}
+use Rattle.model.specs.ListingText.{listable, rows-in-order, entry-numbers, frame-numbers, listing-numbers, States, stated-refusal}
 use Rattle.laws.proofs.Accepted.{accepts}
 use Rattle.laws.proofs.Bound.{bound-small, delay-within}
 use Rattle.laws.proofs.Columns.{value-most, known-small}
@@ -38,7 +37,7 @@ use Rattle.laws.proofs.Rows.{sender-in, edge-is-edge, edge-back, edge-bytes, co
 use Rattle.laws.proofs.Rules.{Lawful}
 use Rattle.laws.proofs.Slots.{slot-in}
 use Rattle.laws.proofs.Sound.{sound-iff}
-use Rattle.laws.proofs.Words.{entries-back, words-back}
+use Rattle.laws.proofs.Words.{entries-back, words-back, counts-each}
 use Rattle.text_grammar.proofs.Runs.{Every}
 use Rattle.listing_grammar.proofs.Forms.{small-short}
 use Rattle.laws.proofs.Listable.{formed-listable}
@@ -125,11 +124,13 @@ module _ (p : Lines) (fine : plan-refusal p ≡ nothing) where
       let n = keep-in (λ e. not (is-process p (e .row))) es (k .1) in
       subst Narrow (sym (k .2)) (frame-narrow (k .0) (h (k .0) (n .0)) (not-true _ (n .1))))) tt
 
-  counts-short : all short (pass-overs p) ≡ true
-  unfolding pass-overs result
+  -- the counts of the nodes are short
+  counts-short : all short (result p .passed) ≡ true
+  unfolding result
   counts-short =
-      let q = sum-most-in (passed-by (plans p)) (below (length (p .slots))) 12672 (λ n i. node-passed p fine n) in
-      join (short (sum (result p .passed))) true (small-short _ (omega (arith, length-upfrom 0 (length (p .slots)), g .few-slots))) refl
+      in-all short (map (passed-by (plans p)) (below (length (p .slots)))) (λ c m.
+      let k = map-in (passed-by (plans p)) (below (length (p .slots))) m in
+      small-short c (omega (arith, k .2, node-passed p fine (k .0))))
 
   -- The listing of a sound table states it. Its words have 32 bits, its delay nine digits, its rows are in order, and
   -- it is not too long.
@@ -139,7 +140,7 @@ module _ (p : Lines) (fine : plan-refusal p ≡ nothing) where
     es = entries-of ws
 
     abbrev pub listed-table : Result
-    listed-table = record { delay = stated; passed = pass-overs p; entries = es; frames = frames p es }
+    listed-table = record { delay = stated; passed = result p .passed; entries = es; frames = frames p es }
 
     lawful : Lawful p es stated
     lawful = sound-iff p ws stated .0 sound .2
@@ -147,15 +148,15 @@ module _ (p : Lines) (fine : plan-refusal p ≡ nothing) where
     its-formed : (e : Entry) → In e es → Formed p e
     its-formed e m = formed p e (lawful .formed e m)
 
-    pub table-states : States p (listing p stated (pass-overs p) es (frames p es)) listed-table
-    unfolding pass-overs listing-numbers
+    pub table-states : States p (listing p stated (result p .passed) es (frames p es)) listed-table
+    unfolding listing-numbers
     table-states =
         record {
-          one-count = refl;
+          count-for-each = counts-each p;
           all-short =
-              all-joined short ((stated ∷ pass-overs p) ++ each entry-numbers es) (each frame-numbers (frames p es))
-              (all-joined short (stated ∷ pass-overs p) (each entry-numbers es)
-              (join (short stated) (all short (pass-overs p)) (small-short stated nine) counts-short)
+              all-joined short ((stated ∷ result p .passed) ++ each entry-numbers es) (each frame-numbers (frames p es))
+              (all-joined short (stated ∷ result p .passed) (each entry-numbers es)
+              (join (short stated) (all short (result p .passed)) (small-short stated nine) counts-short)
               (all-each short entry-numbers es (λ e m.
               let f = its-formed e m in
               join (short (e .tick)) (all short (e .place ∷ [])) (small-short _ (omega (arith, f .tick-in))) (join (short (e .place)) true (small-short _ (omega (arith, f .place-in))) refl))))
@@ -172,7 +173,7 @@ module _ (p : Lines) (fine : plan-refusal p ≡ nothing) where
     pub table-accepted : stated-refusal p listed-table ≡ nothing
     table-accepted =
         accepts p listed-table
-        (record { sound = rw (words-back ws (sound-iff p ws stated .0 sound .1)) sound; its-frames = refl; its-count = refl })
+        (record { sound = rw (words-back ws (sound-iff p ws stated .0 sound .1)) sound; its-frames = refl; its-counts = refl })
 
   -- the planner's own listing
   own-value : (e : Entry) → In e (result p .entries) → e .values < 2 ^ 32
@@ -197,14 +198,6 @@ module _ (p : Lines) (fine : plan-refusal p ≡ nothing) where
       omega (arith, ap (λ (z : State). delay p (full-ticks p) (z .log)) (c .2), delay-within p (c .0) fine (c .1), bound-small p g)) in
       omega arith
 
-  -- what the planner gives, with the counts that its listing shows
-  abbrev pub shown : Result
-  shown = record { delay = result p .delay; passed = pass-overs p; entries = result p .entries; frames = result p .frames }
-
-  same-line : passed-lines (pass-overs p) ≡ passed-lines (result p .passed)
-  unfolding pass-overs passed-lines
-  same-line = let z : sum (result p .passed) + 0 ≡ sum (result p .passed) = omega arith in rw z
-
   module _ (few-entries : length (result p .entries) ≤ 3000) (few-frames : length (result p .frames) ≤ 2000) where
     abbrev E : List Entry
     E = result p .entries
@@ -219,16 +212,12 @@ module _ (p : Lines) (fine : plan-refusal p ≡ nothing) where
     unfolding result
     framed = refl
 
-    same-listing : listing p (result p .delay) (pass-overs p) E (result p .frames) ≡ printed p (made (result p))
-    unfolding listing printed
-    same-listing = rw same-line
-
     -- what holds of the listing of the planner's table as words holds of what the planner gives
     of-own : (Holds : List Entry → Result → Type 0)
-        → Holds (entries-of W) (record { delay = result p .delay; passed = pass-overs p; entries = entries-of W; frames = frames p (entries-of W) }) → Holds E shown
+        → Holds (entries-of W) (record { delay = result p .delay; passed = result p .passed; entries = entries-of W; frames = frames p (entries-of W) }) → Holds E (result p)
     of-own Holds h =
-        subst (λ (fs : List Frame). Holds E (record { delay = result p .delay; passed = pass-overs p; entries = E; frames = fs })) framed
-        (subst (λ (es : List Entry). Holds es (record { delay = result p .delay; passed = pass-overs p; entries = es; frames = frames p es })) back h)
+        subst (λ (fs : List Frame). Holds E (record { delay = result p .delay; passed = result p .passed; entries = E; frames = fs })) framed
+        (subst (λ (es : List Entry). Holds es (record { delay = result p .delay; passed = result p .passed; entries = es; frames = frames p es })) back h)
 
     own-word : (e : Entry) → In e (entries-of W) → e .values < 2 ^ 32
     own-word e m = own-value e (subst (λ (es : List Entry). In e es) back m)
@@ -243,12 +232,12 @@ module _ (p : Lines) (fine : plan-refusal p ≡ nothing) where
     own-frames = omega (arith, ap (λ (es : List Entry). length (frames p es)) back, ap length framed)
 
     -- what the planner prints states what it planned, and is accepted
-    pub own-states : States p (printed p (made (result p))) shown
+    pub own-states : States p (printed p (made (result p))) (result p)
+    unfolding printed
     own-states =
-        subst (λ (bytes : List ℕ). States p bytes shown) same-listing
-        (of-own (λ es r. States p (listing p (r .delay) (r .passed) (r .entries) (r .frames)) r)
-        (table-states W (result p .delay) (own-table-sound p fine) own-word own-delay own-order own-few own-frames))
+        of-own (λ es r. States p (listing p (r .delay) (r .passed) (r .entries) (r .frames)) r)
+        (table-states W (result p .delay) (own-table-sound p fine) own-word own-delay own-order own-few own-frames)
 
-    pub own-accepted : stated-refusal p shown ≡ nothing
+    pub own-accepted : stated-refusal p (result p) ≡ nothing
     own-accepted =
         of-own (λ es r. stated-refusal p r ≡ nothing) (table-accepted W (result p .delay) (own-table-sound p fine) own-word own-delay own-order own-few own-frames)

@@ -25,13 +25,13 @@ use Rattle.laws.proofs.Good.{good}
 use Rattle.text_grammar.specs.Parse.{Parsed, none, got, word-at, closed-at, run-at}
 use Rattle.text_grammar.proofs.Parsed.{got-same, parts}
 use Rattle.text_grammar.proofs.Numbers.{bracketed}
-use Rattle.text_grammar.proofs.Inverse.{Reads, made, closed-reads}
+use Rattle.text_grammar.proofs.Inverse.{Reads, closed-reads}
 use Rattle.text_grammar.proofs.Runs.{Every, every, run-complete, run-sound}
-use Rattle.listing_count.specs.Parts.{entry-text, frame-text, frame-of}
-use Rattle.listing_count.proofs.Lines.{entry-same, frame-same}
-use Rattle.listing_grammar.specs.Parse.{numbered-at, start-at, item-at, entry-at, frame-at, passed-at, listing-at, Read, no-reading, read, in-form, to-end, read-listing}
+use Rattle.listing_count.specs.Parts.{entry-text, frame-text, frame-of, passed-of, passed-text}
+use Rattle.listing_count.proofs.Lines.{entry-same, frame-same, passed-same}
+use Rattle.listing_grammar.specs.Parse.{numbered-at, start-at, item-at, entry-at, frame-at, count-at, passed-at, listing-at, Read, no-reading, read, in-form, to-end, read-listing}
 use Rattle.listing_grammar.proofs.Columns.{Fits}
-use Rattle.listing_grammar.proofs.Forms.{Line, entry-reads, frame-reads}
+use Rattle.listing_grammar.proofs.Forms.{Line, entry-reads, frame-reads, count-reads}
 
 -- known and value bits that n conditions have
 fits-in : (n known values : ℕ) → known < 2 ^ n → values < 2 ^ n → bits-within n values known ≡ true → Fits n known values
@@ -51,6 +51,9 @@ in-fits (suc n) known values f =
     (omega (arith, pow-suc 2 n), omega (arith, pow-suc 2 n), join (leb (values % 2) (known % 2)) _ (le-leb _ _ (f .0)) (r .2))
 
 module _ (p : Lines) where
+  abbrev N : ℕ
+  N = length (p .slots)
+
   abbrev P : ℕ
   P = length (p .processes)
 
@@ -61,7 +64,7 @@ module _ (p : Lines) where
   C = length (p .conditions)
 
   abbrev pub reading : List ℕ → Read
-  reading bytes = read-listing P E C bytes
+  reading bytes = read-listing N P E C bytes
 
   -- what may be listed is what a line says
   listable-line : (e : Entry) → listable p e ≡ true → Line P E C e
@@ -123,38 +126,68 @@ unfolding entry-at start-at item-at numbered-at word-at frame-of
 entry-over processes edges conditions [] = refl
 entry-over processes edges conditions (f ∷ fs) = refl
 
--- the delay line, and the passed line
+-- the delay line
 abbrev pub delay-line : ℕ → List ℕ
 delay-line d = (text "(delay " ++ bracketed d) ++ text "\n"
 
-passed-reads : Reads passed-at (λ ns. (n : ℕ) × (n ∷ [] ≡ ns)) passed-lines (λ ns. ns)
-unfolding passed-at passed-lines field
-passed-reads =
-    made (closed-reads (text "(passed ") (text "\n")) (λ n. n ∷ []) (λ n.
-    let z : n ≡ n + 0 = omega arith in
-    ap (λ (m : ℕ). (text "(passed " ++ bracketed m) ++ text "\n") z) (λ n. refl)
+-- The passed lines of the nodes from n on are read as their counts, of which there are as many as nodes.
+passed-complete : (n k : ℕ) → n + k ≤ 1000000000 → (cs s : List ℕ) → length cs ≡ k → all short cs ≡ true → passed-at n k (passed-text n cs ++ s) ≡ got cs s
+unfolding passed-at passed-text
+passed-complete n zero l [] s e h = refl
+passed-complete n zero l (c ∷ cs) s e h = absurd (omega arith)
+passed-complete n (suc k) l [] s e h = absurd (omega arith)
+passed-complete n (suc k) l (c ∷ cs) s e h =
+    let b = both (short c) (all short cs) h in
+    rw (
+      append-assoc (passed-of n c) (passed-text (suc n) cs) s,
+      count-reads n (omega arith) .complete c (passed-text (suc n) cs ++ s) tt (join (short c) true (b .0) refl),
+      passed-complete (suc n) k (omega arith) cs s (omega arith) (b .1),
+    )
 
-one-number : (ns : List ℕ) → length ns ≡ 1 → (n : ℕ) × (n ∷ [] ≡ ns)
-one-number [] h = absurd (omega arith)
-one-number (n ∷ []) h = (n, refl)
-one-number (n ∷ m ∷ ns) h = absurd (omega arith)
+-- What is read are the printed lines of as many short counts.
+abbrev Passed : ℕ → ℕ → List ℕ → List ℕ → List ℕ → Type 0
+Passed n k s cs r = (s ≡ passed-text n cs ++ r) × (length cs ≡ k) × (all short cs ≡ true)
+
+passed-sound : (n k : ℕ) → n + k ≤ 1000000000 → (s cs r : List ℕ) → passed-at n k s ≡ got cs r → Passed n k s cs r
+unfolding passed-at passed-text
+passed-sound n zero l s cs r h = let g = got-same h in subst (λ (z : List ℕ). Passed n 0 s z r) (g .0) (g .1, refl, refl)
+passed-sound n (suc k) l s cs r h =
+    let a = parts (count-at n s) _ h in
+    let b = parts (passed-at (suc n) k (a .rest)) _ (a .two) in
+    let g = got-same (b .two) in
+    let f = count-reads n (omega arith) .sound s (a .value) (a .rest) (a .one) in
+    let d = passed-sound (suc n) k (omega arith) (a .rest) (b .value) (b .rest) (b .one) in
+    let e : a .rest ≡ passed-text (suc n) (b .value) ++ r = d .0 ∙ ap (λ (z : List ℕ). passed-text (suc n) (b .value) ++ z) (g .1) in
+    subst (λ (z : List ℕ). Passed n (suc k) s z r) (g .0) (
+      f .0 ∙ ap (λ (z : List ℕ). passed-of n (a .value) ++ z) e ∙ sym (append-assoc (passed-of n (a .value)) (passed-text (suc n) (b .value)) r),
+      ap suc (d .1),
+      join (short (a .value)) (all short (b .value)) (both (short (a .value)) true (f .2) .0) (d .2),
+    )
+
+-- both
+pub passed-reads : (n k : ℕ) → n + k ≤ 1000000000 → Reads (passed-at n k) (λ cs. length cs ≡ k) (passed-text n) (λ cs. cs)
+passed-reads n k l = record { complete = passed-complete n k l; sound = passed-sound n k l }
 
 module _ (p : Lines) (fine : plan-refusal p ≡ nothing) where
-  few : C p ≤ 10
+  pub few : C p ≤ 10
   few = let h = good p fine .few-conditions in omega arith
 
-  small : P p + E p + C p < 1000000000
+  pub small : P p + E p + C p < 1000000000
   small = let g = good p fine in omega (arith, g .few-processes, g .few-edges, g .few-conditions)
+
+  -- the nodes' numbers are short
+  few-nodes : 0 + N p ≤ 1000000000
+  few-nodes = let g = good p fine in omega (arith, g .few-slots)
 
   abbrev pub line : Entry → List ℕ
   line = entry-text (P p) (E p) (C p)
 
   pub in-turn : (r : Result) → listing p (r .delay) (r .passed) (r .entries) (r .frames)
-      ≡ delay-line (r .delay) ++ (passed-lines (r .passed) ++ (each line (r .entries) ++ (each frame-text (r .frames) ++ [])))
+      ≡ delay-line (r .delay) ++ (passed-text 0 (r .passed) ++ (each line (r .entries) ++ (each frame-text (r .frames) ++ [])))
   unfolding listing field
   in-turn r =
-      regrouped (delay-line (r .delay)) (passed-lines (r .passed)) (each (entry-line p) (r .entries)) (each frame-line (r .frames))
-      ∙ (λ i. delay-line (r .delay) ++ (passed-lines (r .passed) ++ (each-equal (entry-same p) (r .entries) i ++ (each-equal frame-same (r .frames) i ++ []))))
+      regrouped (delay-line (r .delay)) (passed-lines 0 (r .passed)) (each (entry-line p) (r .entries)) (each frame-line (r .frames))
+      ∙ (λ i. delay-line (r .delay) ++ (passed-same 0 (r .passed) i ++ (each-equal (entry-same p) (r .entries) i ++ (each-equal frame-same (r .frames) i ++ []))))
     where
       regrouped : (a b c d : List ℕ) → a ++ b ++ c ++ d ≡ a ++ (b ++ (c ++ (d ++ [])))
       regrouped a b c d = simp (append-assoc, append-nil)
@@ -176,50 +209,50 @@ module _ (p : Lines) (fine : plan-refusal p ≡ nothing) where
       all-joined short ((r .delay ∷ r .passed) ++ each entry-numbers (r .entries)) (each frame-numbers (r .frames))
       (all-joined short (r .delay ∷ r .passed) (each entry-numbers (r .entries)) (all-joined short (r .delay ∷ []) (r .passed) (h .0) (h .1)) (h .2)) (h .3)
 
-  listing-complete : (r : Result) → length (r .passed) ≡ 1 → all short (listing-numbers r) ≡ true → all (listable p) (r .entries) ≡ true
-      → listing-at (P p) (E p) (C p) (listing p (r .delay) (r .passed) (r .entries) (r .frames)) ≡ got r []
+  listing-complete : (r : Result) → length (r .passed) ≡ N p → all short (listing-numbers r) ≡ true → all (listable p) (r .entries) ≡ true
+      → listing-at (N p) (P p) (E p) (C p) (listing p (r .delay) (r .passed) (r .entries) (r .frames)) ≡ got r []
   unfolding listing-at
-  listing-complete r one h lines =
+  listing-complete r each-one h lines =
       let n = numbers-apart r h in
       let r₃ : List ℕ = each frame-text (r .frames) ++ [] in
       let r₂ : List ℕ = each line (r .entries) ++ r₃ in
-      let r₁ : List ℕ = passed-lines (r .passed) ++ r₂ in
+      let r₁ : List ℕ = passed-text 0 (r .passed) ++ r₂ in
       rw (
         in-turn r,
         closed-reads (text "(delay ") (text "\n") .complete (r .delay) r₁ tt (n .0),
-        passed-reads .complete (r .passed) r₂ (one-number (r .passed) one) (n .1),
+        passed-reads 0 (N p) few-nodes .complete (r .passed) r₂ each-one (n .1),
         run-complete (entry-reads (P p) (E p) (C p) few small) (entry-over (P p) (E p) (C p) []) (r .entries) r₃ (all-lines p (r .entries) lines) (n .2) (entry-over (P p) (E p) (C p) (r .frames)),
         run-complete frame-reads frame-over (r .frames) [] (every (r .frames)) (n .3) frame-over,
       )
 
   -- what a reading says, but for the order of the rows and how many lines there are
   record Form (bytes : List ℕ) (r : Result) : Type 0 where
-    one-count : length (r .passed) ≡ 1
+    count-for-each : length (r .passed) ≡ N p
     all-short : all short (listing-numbers r) ≡ true
     all-listable : all (listable p) (r .entries) ≡ true
     prints : listing p (r .delay) (r .passed) (r .entries) (r .frames) ≡ bytes
 
-  listing-sound : (s : List ℕ) (r : Result) → listing-at (P p) (E p) (C p) s ≡ got r [] → Form s r
+  listing-sound : (s : List ℕ) (r : Result) → listing-at (N p) (P p) (E p) (C p) s ≡ got r [] → Form s r
   unfolding listing-at
   listing-sound s r h =
       let a = parts (closed-at (text "(delay ") (text "\n") s) _ h in
-      let b = parts (passed-at (a .rest)) _ (a .two) in
+      let b = parts (passed-at 0 (N p) (a .rest)) _ (a .two) in
       let c = parts (run-at (entry-at (P p) (E p) (C p)) (b .rest)) _ (b .two) in
       let d = parts (run-at frame-at (c .rest)) _ (c .two) in
       let f = closed-reads (text "(delay ") (text "\n") .sound s (a .value) (a .rest) (a .one) in
-      let g = passed-reads .sound (a .rest) (b .value) (b .rest) (b .one) in
+      let g = passed-reads 0 (N p) few-nodes .sound (a .rest) (b .value) (b .rest) (b .one) in
       let i = run-sound (entry-reads (P p) (E p) (C p) few small) (entry-over (P p) (E p) (C p) []) (b .rest) (c .value) (c .rest) (c .one) in
       let j = run-sound frame-reads frame-over (c .rest) (d .value) (d .rest) (d .one) in
       put-together (a .rest) (b .rest) (c .rest) (d .rest) (record { delay = a .value; passed = b .value; entries = c .value; frames = d .value })
-      (d .two) (f .0) (g .0) (i .0) (j .0) (sym (ap length (g .1 .1))) (lines-all p (c .value) (i .1)) (f .2, g .2, i .2, j .2)
+      (d .two) (f .0) (g .0) (i .0) (j .0) (g .1) (lines-all p (c .value) (i .1)) (f .2, g .2, i .2, j .2)
     where
-      put-together : (r₁ r₂ r₃ r₄ : List ℕ) (q : Result) → got q r₄ ≡ got r [] → s ≡ delay-line (q .delay) ++ r₁ → r₁ ≡ passed-lines (q .passed) ++ r₂
-          → r₂ ≡ each line (q .entries) ++ r₃ → r₃ ≡ each frame-text (q .frames) ++ r₄ → length (q .passed) ≡ 1 → all (listable p) (q .entries) ≡ true → Numbers q → Form s r
-      put-together r₁ r₂ r₃ r₄ q z a b c d one lines n =
+      put-together : (r₁ r₂ r₃ r₄ : List ℕ) (q : Result) → got q r₄ ≡ got r [] → s ≡ delay-line (q .delay) ++ r₁ → r₁ ≡ passed-text 0 (q .passed) ++ r₂
+          → r₂ ≡ each line (q .entries) ++ r₃ → r₃ ≡ each frame-text (q .frames) ++ r₄ → length (q .passed) ≡ N p → all (listable p) (q .entries) ≡ true → Numbers q → Form s r
+      put-together r₁ r₂ r₃ r₄ q z a b c d each-one lines n =
           let g = got-same z in
           subst (Form s) (g .0)
           (record {
-            one-count = one;
+            count-for-each = each-one;
             all-short = numbers-joined q n;
             all-listable = lines;
             prints = in-turn q ∙ sym (a ∙ rw (b, c, d, g .1));
@@ -228,7 +261,7 @@ module _ (p : Lines) (fine : plan-refusal p ≡ nothing) where
   pub states-read : {bytes : List ℕ} {r : Result} → States p bytes r → reading p bytes ≡ read r
   unfolding read-listing to-end in-form
   states-read {bytes} {r} m =
-      rw (← m .prints, listing-complete r (m .one-count) (m .all-short) (m .all-listable), m .in-order, le-leb _ _ (m .few-entries), le-leb _ _ (m .few-frames))
+      rw (← m .prints, listing-complete r (m .count-for-each) (m .all-short) (m .all-listable), m .in-order, le-leb _ _ (m .few-entries), le-leb _ _ (m .few-frames))
 
   not-read : {A : Type 0} {r : Result} → no-reading ≡ read r → A
   not-read h = absurd (let z : _≡_ {A = ℕ} 0 1 = cc in omega arith)
@@ -246,12 +279,12 @@ module _ (p : Lines) (fine : plan-refusal p ≡ nothing) where
   pub read-states : {bytes : List ℕ} {r : Result} → reading p bytes ≡ read r → States p bytes r
   unfolding read-listing in-form
   read-states {bytes} {r} h =
-      let e = to-end-got (listing-at (P p) (E p) (C p) bytes) r h in
+      let e = to-end-got (listing-at (N p) (P p) (E p) (C p) bytes) r h in
       let f = listing-sound bytes r (e .0) in
       let a = both (rows-in-order 0 (r .entries)) (leb (length (r .entries)) 3000 && leb (length (r .frames)) 2000) (e .1) in
       let b = both (leb (length (r .entries)) 3000) (leb (length (r .frames)) 2000) (a .1) in
       record {
-        one-count = f .one-count;
+        count-for-each = f .count-for-each;
         all-short = f .all-short;
         all-listable = f .all-listable;
         in-order = a .0;

@@ -1,5 +1,5 @@
--- A listing text read from left to right, as functions on lists of bytes, by how many processes, edges and conditions
--- the plan has.
+-- A listing text read from left to right, as functions on lists of bytes, by how many slots, processes, edges and
+-- conditions the plan has.
 -- Assumes nothing.
 use Prim.Native.Nat.{ℕ, zero, suc, _+_, _*_}
 use mathlib.Core.Bool.{Bool, true, false, _&&_}
@@ -73,14 +73,18 @@ frame-at s =
     and-then (numbered-at (text "(frame ") s) (λ t r. and-then (field-at (text "(node ") r) (λ n q.
     and-then (closed-at (text " (bytes ") (text ")\n") q) (λ b o. got (record { tick = t; node = n; used = b }) o)))
 
--- the passed line, as a list of one count
-unfoldable pub passed-at : List ℕ → Parsed (List ℕ)
-passed-at s = and-then (closed-at (text "(passed ") (text "\n") s) (λ n r. got (n ∷ []) r)
+-- the passed line of a node, and those of as many nodes from n on
+unfoldable pub count-at : ℕ → List ℕ → Parsed ℕ
+count-at n s = and-then (closed-at (text "(passed (node ") (text " ") s) (λ m r. if eqb m n then closed-at [] (text "\n") r else none)
+
+unfoldable pub passed-at : ℕ → ℕ → List ℕ → Parsed (List ℕ)
+passed-at n zero s = got [] s
+passed-at n (suc k) s = and-then (count-at n s) (λ m r. and-then (passed-at (suc n) k r) (λ ms q. got (m ∷ ms) q))
 
 -- the whole text: delay, passed, entries, frames, and nothing behind them
-unfoldable pub listing-at : ℕ → ℕ → ℕ → List ℕ → Parsed Result
-listing-at processes edges conditions s =
-    and-then (closed-at (text "(delay ") (text "\n") s) (λ d r. and-then (passed-at r) (λ ns q.
+unfoldable pub listing-at : ℕ → ℕ → ℕ → ℕ → List ℕ → Parsed Result
+listing-at slots processes edges conditions s =
+    and-then (closed-at (text "(delay ") (text "\n") s) (λ d r. and-then (passed-at 0 slots r) (λ ns q.
     and-then (run-at (entry-at processes edges conditions) q) (λ es o. and-then (run-at frame-at o) (λ fs m.
     got (record { delay = d; passed = ns; entries = es; frames = fs }) m))))
 
@@ -97,5 +101,5 @@ to-end none = no-reading
 to-end (got r []) = if in-form r then read r else no-reading
 to-end (got r (b ∷ s)) = no-reading
 
-unfoldable pub read-listing : ℕ → ℕ → ℕ → List ℕ → Read
-read-listing processes edges conditions s = to-end (listing-at processes edges conditions s)
+unfoldable pub read-listing : ℕ → ℕ → ℕ → ℕ → List ℕ → Read
+read-listing slots processes edges conditions s = to-end (listing-at slots processes edges conditions s)

@@ -1,3 +1,5 @@
+-- Laws of the passed lines: PassedSoFar (they are read node by node).
+pub mod PassedSoFar
 -- Laws of runs of lines: LinesSoFar (lines while they are read into words), RowsInOrder (the rows of entries),
 -- RunsEnded (what is answered where they end).
 pub mod LinesSoFar

@@ -1,6 +1,6 @@
 -- The whole listing by its parts: it is not read where one of them is missing or not in form, or where more follows.
 -- Assumes nothing.
-use Prim.Native.Nat.{ℕ, _+_, _*_, _≤_, _<_}
+use Prim.Native.Nat.{ℕ, _*_, _≤_, _<_}
 use mathlib.Core.Path.{_≡_, refl, ap, sym, _∙_}
 use mathlib.Core.Bool.{Bool, true, false, false≢true, _&&_}
 use mathlib.Core.List.{List, [], _∷_}
@@ -21,7 +21,7 @@ use Rattle.text_scanner.specs.Place.{nowhere, found, Scanned}
 use Rattle.listing_grammar.specs.Parse.{passed-at, listing-at, no-reading, in-form, to-end, read-listing}
 use Rattle.listing_scanner.specs.declared.entries.Counts.{Counts}
 use Rattle.listing_reader.specs.Answer.{answer-of}
-use Rattle.listing_reader.specs.Runs.{entries-at, frames-at, entries-in-form, frames-in-form, Found, Formless, reading, Lines-read}
+use Rattle.listing_reader.specs.Runs.{Counts-found, entries-at, frames-at, entries-in-form, frames-in-form, Found, Formless, reading, Lines-read}
 use Rattle.listing_reader.specs.declared.reader.ListingRead.the-variants as Answers
 
 not-in-form : (q : Parsed Result) → ((r : Result) (rest : List ℕ) → q ≡ got r rest → in-form r ≡ false) → to-end q ≡ no-reading
@@ -52,21 +52,21 @@ module _ (counts : Counts) {text : List ℕ} where
 
   -- the delay line
   module _ {d i : ℕ} (delay : Scanned text (found d i) (closed-at (text-of "(delay ") (text-of "\n") text)) where
-    pub no-passed : Scanned text nowhere (closed-at (text-of "(passed ") (text-of "\n") (drop i text)) → reading counts text ≡ no-reading
-    unfolding read-listing to-end listing-at passed-at
-    no-passed e = rw (← delay .same, ← e .same)
+    pub no-passed : passed-at 0 (counts .slots) (drop i text) ≡ none → reading counts text ≡ no-reading
+    unfolding read-listing to-end listing-at
+    no-passed e = rw (← delay .same, e)
 
-    -- and the passed line
-    module _ {n j : ℕ} (passed : Scanned text (found n j) (closed-at (text-of "(passed ") (text-of "\n") (drop i text))) where
+    -- and the passed lines
+    module _ {passed passed-now : List ℕ} {j : ℕ} (nodes : Counts-found text i (counts .slots) passed passed-now j) where
       abbrev said : List Entry → List Frame → Result
-      said es fs = record { delay = d; passed = n ∷ []; entries = es; frames = fs }
+      said es fs = record { delay = d; passed = nodes .counts; entries = es; frames = fs }
 
       abbrev all-parts : Parsed Result
-      all-parts = listing-at (counts .processes) (counts .edges) (counts .conditions) text
+      all-parts = listing-at (counts .slots) (counts .processes) (counts .edges) (counts .conditions) text
 
       lines-next : all-parts ≡ and-then (entries-at counts (drop j text)) (λ es o. and-then (frames-at o) (λ fs m. got (said es fs) m))
-      unfolding listing-at passed-at
-      lines-next = rw (← delay .same, ← passed .same)
+      unfolding listing-at
+      lines-next = rw (← delay .same, nodes .read)
 
       pub entries-formless : Formless (entries-at counts) entries-in-form text j → reading counts text ≡ no-reading
       unfolding read-listing in-form
@@ -100,7 +100,7 @@ module _ (counts : Counts) {text : List ℕ} where
           more-follows h = rw (to-last, drop-cons text end 0 h)
 
           pub whole-listing : length text ≤ end →
-              Lines-read text counts table frames table-now frames-now (Answers.Stated (record { words = 5 * count; framewords = 3 * used; delay = d; passed = n }))
+              Lines-read text counts table frames passed table-now frames-now passed-now (Answers.Stated (record { words = 5 * count; framewords = 3 * used; delay = d }))
           unfolding read-listing to-end in-form answer-of
           whole-listing h =
               let es = entries .lines in
@@ -110,13 +110,14 @@ module _ (counts : Counts) {text : List ℕ} where
               let v : length fs ≤ PRINTEDFRAMES = frames-few fs (last .form) in
               let a : 5 * count ≡ length (entry-words es) = omega (arith, entry-words-count es, entries .all) in
               let b : 3 * used ≡ length (frame-words fs) = omega (arith, frame-words-count fs, last .all) in
-              let z : n ≡ n + 0 = omega arith in
               record {
                 states = said es fs;
                 of-text = rw (to-last, drop-of-length-le text {i = end} h, e .0, e .1, last .form);
-                answer = λ i. Answers.Stated (record { words = a i; framewords = b i; delay = d; passed = z i });
+                answer = λ i. Answers.Stated (record { words = a i; framewords = b i; delay = d });
                 few-words = omega (arith, entries .all);
                 few-framewords = omega (arith, last .all);
                 words = entries .held;
                 frame-words = last .held;
+                for-each = nodes .for-each;
+                counted = nodes .held;
               }

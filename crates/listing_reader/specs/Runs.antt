@@ -1,4 +1,5 @@
--- The lines of entries and of frames read into words, and the whole listing, in the words of the grammar.
+-- The passed lines read into numbers, the lines of entries and of frames read into words, and the whole listing, in the
+-- words of the grammar.
 -- Assumes nothing.
 use Prim.Native.Nat.{ℕ, _≤_}
 use mathlib.Core.Path.{_≡_}
@@ -10,17 +11,32 @@ use Rattle.limits.specs.Limits.{PRINTEDENTRIES, PRINTEDFRAMES, PRINTEDWORDS, PR
 use Rattle.lists.specs.Front.{front}
 use Rattle.model.specs.Table.{Entry, Frame, Result, entry-words, frame-words}
 use Rattle.model.specs.ListingText.{rows-in-order, listed}
-use Rattle.text_grammar.specs.Parse.{Parsed, got, run-at}
-use Rattle.listing_grammar.specs.Parse.{entry-at, frame-at, Read, no-reading, read, read-listing}
+use Rattle.text_grammar.specs.Parse.{Parsed, none, got, run-at}
+use Rattle.listing_grammar.specs.Parse.{entry-at, frame-at, passed-at, Read, no-reading, read, read-listing}
 use Rattle.listing_scanner.specs.declared.entries.Counts.{Counts}
 use Rattle.listing_reader.specs.declared.entries.EntriesAt.{EntriesAt}
 use Rattle.listing_reader.specs.declared.entries.EntriesAt.the-variants as E
 use Rattle.listing_reader.specs.declared.frames.FramesAt.{FramesAt}
 use Rattle.listing_reader.specs.declared.frames.FramesAt.the-variants as F
+use Rattle.listing_reader.specs.declared.passed.PassedAt.{PassedAt}
+use Rattle.listing_reader.specs.declared.passed.PassedAt.the-variants as P
 use Rattle.listing_reader.specs.declared.reader.ListingRead.{ListingRead}
 use Rattle.listing_reader.specs.declared.reader.ListingRead.the-variants as Answers
 use Rattle.listing_reader.specs.declared.reader.Stated.{Stated}
 use Rattle.listing_reader.specs.Answer.{answer-of}
+
+-- The passed lines from `at` to `next`, one for each node, and their counts stand in front.
+pub record Counts-found (text : List ℕ) (at slots : ℕ) (before after : List ℕ) (next : ℕ) : Type 0 where
+  pub counts : List ℕ
+  pub read : passed-at 0 slots (drop at text) ≡ got counts (drop next text)
+  pub within : next ≤ length text
+  pub for-each : length counts ≡ slots
+  pub held : after ≡ front counts before
+
+-- what the answer for the passed lines says
+abbrev pub Passed-read : List ℕ → ℕ → ℕ → List ℕ → List ℕ → PassedAt → Type 0
+Passed-read text at slots before after (P.Got next) = Counts-found text at slots before after next
+Passed-read text at slots before after P.No = passed-at 0 slots (drop at text) ≡ none
 
 -- the lines of entries, and of frames, that follow
 abbrev pub entries-at : Counts → List ℕ → Parsed (List Entry)
@@ -63,12 +79,12 @@ Frames-read text at before after F.No = Formless frames-at frames-in-form text a
 
 -- what the grammar reads of the whole text
 abbrev pub reading : Counts → List ℕ → Read
-reading c text = read-listing (c .processes) (c .edges) (c .conditions) text
+reading c text = read-listing (c .slots) (c .processes) (c .edges) (c .conditions) text
 
 -- The whole listing: what the grammar reads, no more than there is room for, its entries and its frames at the front of
--- the words.
-pub record Lines-stated (text : List ℕ) (counts : Counts) (table frames table-now frames-now : List ℕ) (s : Stated)
-    : Type 0 where
+-- the words, and the counts of its nodes at the front of the numbers.
+pub record Lines-stated (text : List ℕ) (counts : Counts) (table frames passed table-now frames-now passed-now : List ℕ)
+    (s : Stated) : Type 0 where
   pub states : Result
   pub of-text : reading counts text ≡ read states
   pub answer : Answers.Stated s ≡ answer-of (listed states)
@@ -76,10 +92,12 @@ pub record Lines-stated (text : List ℕ) (counts : Counts) (table frames table-
   pub few-framewords : s .framewords ≤ PRINTEDFRAMEWORDS
   pub words : table-now ≡ front (entry-words (states .entries)) table
   pub frame-words : frames-now ≡ front (frame-words (states .frames)) frames
+  pub for-each : length (states .passed) ≡ counts .slots
+  pub counted : passed-now ≡ front (states .passed) passed
 
 -- what the answer for the whole says: nothing is read where it is 21
-abbrev pub Lines-read : List ℕ → Counts → List ℕ → List ℕ → List ℕ → List ℕ → ListingRead → Type 0
-Lines-read text counts table frames table-now frames-now (Answers.Stated s) =
-    Lines-stated text counts table frames table-now frames-now s
-Lines-read text counts table frames table-now frames-now (Answers.Refused n) =
+abbrev pub Lines-read : List ℕ → Counts → List ℕ → List ℕ → List ℕ → List ℕ → List ℕ → List ℕ → ListingRead → Type 0
+Lines-read text counts table frames passed table-now frames-now passed-now (Answers.Stated s) =
+    Lines-stated text counts table frames passed table-now frames-now passed-now s
+Lines-read text counts table frames passed table-now frames-now passed-now (Answers.Refused n) =
     (n ≡ 21) × (reading counts text ≡ no-reading)

@@ -1,7 +1,7 @@
 -- What the answers for the lines of a listing stand for.
 -- Assumes nothing.
 use Prim.Native.Nat.{_≤_}
-use Rattle.limits.specs.Limits.{PROCESSES, EDGES, CONDITIONS}
+use Rattle.limits.specs.Limits.{NODES, PROCESSES, EDGES, CONDITIONS}
 use Rattle.model.specs.Table as m
 use Rattle.text_scanner.specs.Place.{Place, nowhere, found}
 use Rattle.listing_scanner.specs.declared.entries.Counts.{Counts}
@@ -14,6 +14,7 @@ use Rattle.listing_scanner.specs.declared.frames.FrameAt.the-variants as
 
 -- counts that refusal 2 leaves of a plan
 pub record Few (c : Counts) : Type 0 where
+  pub slots : c .slots ≤ NODES
   pub processes : c .processes ≤ PROCESSES
   pub edges : c .edges ≤ EDGES
   pub conditions : c .conditions ≤ CONDITIONS

@@ -14,8 +14,9 @@ ghost use Rattle.listing_grammar.specs.Parse.{numbered-at, start-at, item-at, e
 ghost use Rattle.text_scanner.specs.Place.{Scanned, number};
 ghost use Rattle.listing_scanner.specs.Lines.{entry, Few};
 
-// How many processes, edges and conditions the plan of a listing has.
+// How many slots, processes, edges and conditions the plan of a listing has.
 pub struct Counts {
+    pub slots: u32,
     pub processes: u32,
     pub edges: u32,
     pub conditions: u32,

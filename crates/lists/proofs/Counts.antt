@@ -1,15 +1,17 @@
--- How many elements of a list a test keeps, and how many stand in a part of it.
+-- How many elements of a list a test keeps, how many stand in a part of it, and how often each number stands in it.
 -- Assumes nothing.
 use mathlib.Core.Path.{_≡_, refl, sym, ap, _∙_}
 use mathlib.Core.Bool.{Bool, true, false, not}
-use mathlib.Core.List.{List, [], _∷_, List·Memᴰ as In, List·Memᴰ·head as here, List·Memᴰ·tail as there, List·Memᴰ·not-nil as in-none}
-use Prim.Native.Nat.{ℕ, zero, suc, _+_, _*_, _≤_}
+use mathlib.Core.List.{List, [], _∷_, map, List·Memᴰ as In, List·Memᴰ·head as here, List·Memᴰ·tail as there, List·Memᴰ·not-nil as in-none}
+use Prim.Native.Nat.{ℕ, zero, suc, _+_, _*_, _≤_, _<_}
 use native.Mathlib.Omega.{arith}
+use lib.Dec.{eqb}
 use lib.ListN.{length, take}
-use borrow.Author.Tests.{not-true}
-use Rattle.lists.specs.Lists.{if_then_else_, any, keep}
+use borrow.Author.Tests.{eq-eqb, ne-eqb, not-true}
+use Rattle.lists.specs.Lists.{if_then_else_, any, keep, upfrom, sum}
 use Rattle.lists.proofs.Tests.{clash, neither}
 use Rattle.lists.proofs.Members.{keep-in, no-members}
+use Rattle.lists.proofs.Sums.{sum-nought, sum-one-more}
 
 pub take-most : {A : Type 0} (n : ℕ) (xs : List A) → length (take n xs) ≤ n
 take-most zero xs = omega arith
@@ -68,3 +70,11 @@ passing-few {A} {B} t k (c ∷ cs) es some few =
     later : (e : A) → not (t c e) ≡ true → (d : B) × In d (c ∷ cs) × (t d e ≡ true) → (d : B) × In d cs × (t d e ≡ true)
     later e n (d, here q, s) = clash (ap (λ x. t x e) (sym q) ∙ s) (not-true _ n)
     later e n (d, there m, s) = (d, m, s)
+
+-- how often each of the n numbers from a on stands in a list of such numbers, added up: the length of the list
+pub sum-counts : (a n : ℕ) (xs : List ℕ) → ((x : ℕ) → In x xs → (a ≤ x) × (x < a + n)) → sum (map (λ k. length (keep (eqb k) xs)) (upfrom a n)) ≡ length xs
+sum-counts a n [] h = sum-nought a n
+sum-counts a n (x ∷ xs) h =
+    let b = h x (here refl) in
+    sum-one-more (λ k. length (keep (eqb k) (x ∷ xs))) (λ k. length (keep (eqb k) xs)) x a n (b .0) (b .1) (rw (eq-eqb x x refl)) (λ k d. rw (ne-eqb k x d))
+    ∙ ap suc (sum-counts a n xs (λ y m. h y (there m)))

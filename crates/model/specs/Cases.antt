@@ -7,17 +7,16 @@ use mathlib.Core.Bool.{Bool, true, false}
 use mathlib.Core.List.{List, [], _∷_, _++_, map}
 use native.Mathlib.Omega.{arith}
 use lib.ListN.{take, drop, set, replicate}
-use Rattle.lists.specs.Lists.{sum}
 use Rattle.model.specs.Plan.{Lines, PlanLine, Pick, by-urgency, by-number, waits-all, waits-any, Slot, Process, Edge, When, always, on, with-head}
 use Rattle.model.specs.Log.{delay, full-ticks}
 use Rattle.model.specs.Planning.{planned}
 use Rattle.model.specs.Refusals.{Refusal, nothing, refused}
-use Rattle.model.specs.Table.{Result, entries-of, frames-of, result, plan-answer, Answer, turned-down, made, table-after, frames-after}
+use Rattle.model.specs.Table.{Result, entries-of, frames-of, result, plan-answer, Answer, turned-down, made, table-after, frames-after, counts-after, pass-over-count}
 use Rattle.model.specs.Checking.{check}
 use Rattle.model.specs.Lookup.{row-part, lookup}
 use Rattle.model.specs.Text.{text, print, Written, wrote, not-written, write-plan}
 use Rattle.model.specs.Listing.{printed, list-plan}
-use Rattle.model.specs.ListingText.{States, Listed, listed, not-listed, listed-words, listed-frames, stated-refusal, plan-part, listing-part, check-prints}
+use Rattle.model.specs.ListingText.{States, Listed, listed, not-listed, listed-words, listed-frames, listed-counts, stated-refusal, plan-part, listing-part, check-prints}
 use Rattle.model.specs.Firmware.{words-of, found-number}
 use Rattle.model.specs.Run.{run-before}
 use Rattle.model.specs.Demand.{starts-of}
@@ -31,13 +30,14 @@ pub data Question : Type 0 where
   worst : Lines → Question
   delay-in : Lines → List Bool → Question
   passes : Lines → Question
+  passes-in-all : Lines → Question
   lent : Lines → ℕ → ℕ → Question
-  leaves : Lines → List ℕ → List ℕ → Question
+  leaves : Lines → List ℕ → List ℕ → List ℕ → Question
   writes : Lines → ℕ → Question
   lists-in : Lines → ℕ → Question
   checks : Lines → List ℕ → ℕ → Question
   states : Lines → Result → Question
-  lends : Listed → List ℕ → List ℕ → Question
+  lends : Listed → List ℕ → List ℕ → List ℕ → Question
   plan-of : List ℕ → Question
   listing-of : List ℕ → Question
   says : Refusal → Question
@@ -70,16 +70,17 @@ outcome (prints p) = list (print p)
 outcome (lists p) = list (printed p (plan-answer p 15000 6000))
 outcome (worst p) = number (result p .delay)
 outcome (delay-in p c) = number (delay p (full-ticks p) (planned p c .log))
-outcome (passes p) = number (sum (result p .passed))
+outcome (passes p) = list (result p .passed)
+outcome (passes-in-all p) = number (pass-over-count p)
 outcome (lent p w f) = number (answer-number (plan-answer p w f))
-outcome (leaves p ws fs) =
+outcome (leaves p ws fs ns) =
     let a : Answer = plan-answer p (lib.ListN.length ws) (lib.ListN.length fs) in
-    list (table-after a ws ++ frames-after a fs)
+    list (table-after a ws ++ frames-after a fs ++ counts-after a ns)
 outcome (writes p n) = number (written-number (write-plan p n))
 outcome (lists-in p n) = number (written-number (list-plan p n))
 outcome (checks p ws d) = number (refusal-number (check p ws d))
 outcome (states p r) = number (refusal-number (stated-refusal p r))
-outcome (lends l ws fs) = list (listed-words l ws ++ listed-frames l fs)
+outcome (lends l ws fs ns) = list (listed-words l ws ++ listed-frames l fs ++ listed-counts l ns)
 outcome (plan-of input) = list (plan-part input)
 outcome (listing-of input) = list (listing-part input)
 outcome (says r) = list (check-prints r)
@@ -186,7 +187,7 @@ case q o = record { asked = q; stated = o }
 abbrev pub starred : List Case
 starred =
     case (prints S) (list (text "(plan (byte 2) (head 0) (pick urgency))\n(slot (node 0) (bytes 2))\n(slot (node 1) (bytes 2))\n(process (node 0) (ticks 4) (waits all))\n(process (node 1) (ticks 3) (waits all))\n(process (node 0) (ticks 5) (waits all))\n(process (node 0) (ticks 2) (waits any))\n(condition (process 0))\n(edge (from 0) (to 1) (bytes 1) (when (true 0)))\n(edge (from 0) (to 2) (bytes 1) (when (false 0)))\n(edge (from 1) (to 3) (bytes 2) (when always))\n(edge (from 2) (to 3) (bytes 1) (when always))\n"))
-    ∷ case (lists S) (list (text "(delay 34)\n(passed 0)\n(start 0 (when) (at 0))\n(start 1 (when (true 0)) (at 20))\n(start 2 (when (false 0)) (at 12))\n(start 3 (when (false 0)) (at 17))\n(start 3 (when (true 0)) (at 32))\n(send 0 (when (true 0)) (at 16) (place 0))\n(send 2 (when (true 0)) (at 28) (place 0))\n(tell 0 (when) (at 8) (place 0))\n(frame 8 (node 0) (bytes 1))\n(frame 16 (node 0) (bytes 1))\n(frame 28 (node 1) (bytes 2))\n"))
+    ∷ case (lists S) (list (text "(delay 34)\n(passed (node 0) 0)\n(passed (node 1) 0)\n(start 0 (when) (at 0))\n(start 1 (when (true 0)) (at 20))\n(start 2 (when (false 0)) (at 12))\n(start 3 (when (false 0)) (at 17))\n(start 3 (when (true 0)) (at 32))\n(send 0 (when (true 0)) (at 16) (place 0))\n(send 2 (when (true 0)) (at 28) (place 0))\n(tell 0 (when) (at 8) (place 0))\n(frame 8 (node 0) (bytes 1))\n(frame 16 (node 0) (bytes 1))\n(frame 28 (node 1) (bytes 2))\n"))
     ∷ case (worst (S-with 8 2)) (number 34)
     ∷ case (worst (S-with 9 2)) (number 42)
     ∷ case (delay-in (S-with 9 2) (false ∷ [])) (number 27)
@@ -201,7 +202,7 @@ starred =
     ∷ case (lent S 40 9) (number 0)
     ∷ case (lent S 40 8) (number 11)
     ∷ case (checks S [] 34) (number 14)
-    ∷ case (lists packing) (list (text "(delay 16)\n(passed 1)\n(start 0 (when) (at 0))\n(start 1 (when) (at 9))\n(start 2 (when) (at 14))\n(start 3 (when) (at 11))\n(send 0 (when) (at 5) (place 0))\n(send 1 (when) (at 10) (place 0))\n(send 2 (when) (at 5) (place 3))\n(frame 5 (node 0) (bytes 4))\n(frame 10 (node 0) (bytes 2))\n"))
+    ∷ case (lists packing) (list (text "(delay 16)\n(passed (node 0) 1)\n(passed (node 1) 0)\n(start 0 (when) (at 0))\n(start 1 (when) (at 9))\n(start 2 (when) (at 14))\n(start 3 (when) (at 11))\n(send 0 (when) (at 5) (place 0))\n(send 1 (when) (at 10) (place 0))\n(send 2 (when) (at 5) (place 3))\n(frame 5 (node 0) (bytes 4))\n(frame 10 (node 0) (bytes 2))\n"))
     ∷ case (checks packing (packing-words 3) 16) (number 0)
     ∷ case (checks packing (packing-words 2) 16) (number 19)
     ∷ []
@@ -211,27 +212,27 @@ abbrev pub planning : List Case
 planning =
     -- one process alone; two on a node, by urgency and by number; of one urgency the lower number goes first, the other
     -- when it has ended
-    case (lists (one-node by-urgency (all-of 0 7 ∷ []))) (list (text "(delay 7)\n(passed 0)\n(start 0 (when) (at 0))\n"))
-    ∷ case (lists (one-node by-urgency (all-of 0 1 ∷ all-of 0 5 ∷ []))) (list (text "(delay 6)\n(passed 0)\n(start 0 (when) (at 5))\n(start 1 (when) (at 0))\n"))
-    ∷ case (lists (one-node by-number (all-of 0 1 ∷ all-of 0 5 ∷ []))) (list (text "(delay 6)\n(passed 0)\n(start 0 (when) (at 0))\n(start 1 (when) (at 1))\n"))
-    ∷ case (lists (one-node by-urgency (all-of 0 2 ∷ all-of 0 2 ∷ []))) (list (text "(delay 4)\n(passed 0)\n(start 0 (when) (at 0))\n(start 1 (when) (at 2))\n"))
+    case (lists (one-node by-urgency (all-of 0 7 ∷ []))) (list (text "(delay 7)\n(passed (node 0) 0)\n(start 0 (when) (at 0))\n"))
+    ∷ case (lists (one-node by-urgency (all-of 0 1 ∷ all-of 0 5 ∷ []))) (list (text "(delay 6)\n(passed (node 0) 0)\n(start 0 (when) (at 5))\n(start 1 (when) (at 0))\n"))
+    ∷ case (lists (one-node by-number (all-of 0 1 ∷ all-of 0 5 ∷ []))) (list (text "(delay 6)\n(passed (node 0) 0)\n(start 0 (when) (at 0))\n(start 1 (when) (at 1))\n"))
+    ∷ case (lists (one-node by-urgency (all-of 0 2 ∷ all-of 0 2 ∷ []))) (list (text "(delay 4)\n(passed (node 0) 0)\n(start 0 (when) (at 0))\n(start 1 (when) (at 2))\n"))
     -- a message ready exactly as its slot begins, at 3
     ∷ case (worst (plain by-urgency 2 1 (all-of 0 3 ∷ all-of 1 1 ∷ []) (arc 0 1 1 always ∷ []))) (number 6)
     -- an `any` process whose second input comes late, over the bus
     ∷ case (worst (plain by-urgency 1 1 (all-of 0 1 ∷ all-of 1 5 ∷ any-of 0 1 ∷ []) (arc 0 2 1 always ∷ arc 1 2 1 always ∷ []))) (number 7)
     -- columns list what was heard, and no more: condition 1 comes later than condition 0
     ∷ case (lists (deciding 1 1 (all-of 0 1 ∷ all-of 1 4 ∷ all-of 0 1 ∷ all-of 1 2 ∷ []) (0 ∷ 1 ∷ []) (arc 0 2 1 (on true 0) ∷ arc 1 3 1 (on false 1) ∷ [])))
-    (list (text "(delay 8)\n(passed 0)\n(start 0 (when) (at 0))\n(start 1 (when) (at 0))\n(start 2 (when (true 0)) (at 3))\n(start 3 (when (false 0) (false 1)) (at 6))\n(start 3 (when (true 0) (false 1)) (at 6))\n(tell 0 (when) (at 2) (place 0))\n(tell 1 (when (false 0)) (at 5) (place 0))\n(tell 1 (when (true 0)) (at 5) (place 0))\n(frame 2 (node 0) (bytes 1))\n(frame 5 (node 1) (bytes 1))\n"))
+    (list (text "(delay 8)\n(passed (node 0) 0)\n(passed (node 1) 0)\n(start 0 (when) (at 0))\n(start 1 (when) (at 0))\n(start 2 (when (true 0)) (at 3))\n(start 3 (when (false 0) (false 1)) (at 6))\n(start 3 (when (true 0) (false 1)) (at 6))\n(tell 0 (when) (at 2) (place 0))\n(tell 1 (when (false 0)) (at 5) (place 0))\n(tell 1 (when (true 0)) (at 5) (place 0))\n(frame 2 (node 0) (bytes 1))\n(frame 5 (node 1) (bytes 1))\n"))
     -- a broadcast goes before a message, and the frame's last used byte is the message's
     ∷ case (lists (deciding 4 1 (all-of 0 2 ∷ all-of 1 1 ∷ []) (0 ∷ []) (arc 0 1 2 always ∷ [])))
-    (list (text "(delay 10)\n(passed 0)\n(start 0 (when) (at 0))\n(start 1 (when (false 0)) (at 9))\n(start 1 (when (true 0)) (at 9))\n(send 0 (when) (at 5) (place 1))\n(tell 0 (when) (at 5) (place 0))\n(frame 5 (node 0) (bytes 3))\n"))
+    (list (text "(delay 10)\n(passed (node 0) 0)\n(passed (node 1) 0)\n(start 0 (when) (at 0))\n(start 1 (when (false 0)) (at 9))\n(start 1 (when (true 0)) (at 9))\n(send 0 (when) (at 5) (place 1))\n(tell 0 (when) (at 5) (place 0))\n(frame 5 (node 0) (bytes 3))\n"))
     -- a message is sent though its receiver does not run; ties go to the lower process and the lower edge
     ∷ case (lists (deciding 1 1 (all-of 0 1 ∷ all-of 0 1 ∷ all-of 1 1 ∷ []) (0 ∷ []) (arc 0 2 1 (on true 0) ∷ arc 1 2 1 always ∷ [])))
-    (list (text "(delay 8)\n(passed 3)\n(start 0 (when) (at 0))\n(start 1 (when) (at 1))\n(start 2 (when (true 0)) (at 7))\n(send 0 (when (true 0)) (at 4) (place 0))\n(send 1 (when (false 0)) (at 4) (place 0))\n(send 1 (when (true 0)) (at 6) (place 0))\n(tell 0 (when) (at 2) (place 0))\n(frame 2 (node 0) (bytes 1))\n(frame 4 (node 0) (bytes 1))\n(frame 6 (node 0) (bytes 1))\n"))
+    (list (text "(delay 8)\n(passed (node 0) 3)\n(passed (node 1) 0)\n(start 0 (when) (at 0))\n(start 1 (when) (at 1))\n(start 2 (when (true 0)) (at 7))\n(send 0 (when (true 0)) (at 4) (place 0))\n(send 1 (when (false 0)) (at 4) (place 0))\n(send 1 (when (true 0)) (at 6) (place 0))\n(tell 0 (when) (at 2) (place 0))\n(frame 2 (node 0) (bytes 1))\n(frame 4 (node 0) (bytes 1))\n(frame 6 (node 0) (bytes 1))\n"))
     -- pass-overs count slots, not items: three messages of 2 bytes and a slot of 2; and they count after the last
     -- process has ended
-    ∷ case (passes (plain by-urgency 2 1 (all-of 0 1 ∷ all-of 1 1 ∷ all-of 1 1 ∷ all-of 1 1 ∷ []) (arc 0 1 2 always ∷ arc 0 2 2 always ∷ arc 0 3 2 always ∷ []))) (number 2)
-    ∷ case (passes (deciding 1 4 (all-of 0 1 ∷ all-of 0 1 ∷ []) (0 ∷ 1 ∷ []) [])) (number 4)
+    ∷ case (passes (plain by-urgency 2 1 (all-of 0 1 ∷ all-of 1 1 ∷ all-of 1 1 ∷ all-of 1 1 ∷ []) (arc 0 1 2 always ∷ arc 0 2 2 always ∷ arc 0 3 2 always ∷ []))) (list (2 ∷ 0 ∷ []))
+    ∷ case (passes (deciding 1 4 (all-of 0 1 ∷ all-of 0 1 ∷ []) (0 ∷ 1 ∷ []) [])) (list (4 ∷ 0 ∷ []))
     ∷ case (worst (deciding 1 4 (all-of 0 1 ∷ all-of 0 1 ∷ []) (0 ∷ 1 ∷ []) [])) (number 2)
     ∷ []
 
@@ -257,16 +258,16 @@ answers =
     -- a stated delay of ten digits can be right
     ∷ case (checks (one-node by-urgency (all-of 0 7 ∷ [])) (0 ∷ 0 ∷ 0 ∷ 999999999 ∷ 0 ∷ []) 1000000006) (number 0)
     -- buffers: a refusal leaves them, an accepted call leaves the words beyond its output
-    ∷ case (leaves (one-node by-urgency (all-of 0 7 ∷ [])) (9 ∷ 9 ∷ 9 ∷ 9 ∷ []) (8 ∷ [])) (list (9 ∷ 9 ∷ 9 ∷ 9 ∷ 8 ∷ []))
-    ∷ case (leaves (one-node by-urgency (all-of 0 7 ∷ [])) (9 ∷ 9 ∷ 9 ∷ 9 ∷ 9 ∷ 9 ∷ []) (8 ∷ [])) (list (0 ∷ 0 ∷ 0 ∷ 0 ∷ 0 ∷ 9 ∷ 8 ∷ []))
+    ∷ case (leaves (one-node by-urgency (all-of 0 7 ∷ [])) (9 ∷ 9 ∷ 9 ∷ 9 ∷ []) (8 ∷ []) (7 ∷ [])) (list (9 ∷ 9 ∷ 9 ∷ 9 ∷ 8 ∷ 7 ∷ []))
+    ∷ case (leaves (one-node by-urgency (all-of 0 7 ∷ [])) (9 ∷ 9 ∷ 9 ∷ 9 ∷ 9 ∷ 9 ∷ []) (8 ∷ []) (7 ∷ 7 ∷ [])) (list (0 ∷ 0 ∷ 0 ∷ 0 ∷ 0 ∷ 9 ∷ 8 ∷ 0 ∷ 7 ∷ []))
     ∷ case (writes S 473) (number 0)
     ∷ case (writes S 472) (number 10)
     -- a listing in lent bytes, of which there are enough, one too few, and none for a plan that 9 refuses
-    ∷ case (lists-in S 392) (number 0)
-    ∷ case (lists-in S 391) (number 10)
+    ∷ case (lists-in S 421) (number 0)
+    ∷ case (lists-in S 420) (number 10)
     ∷ case (lists-in (S-with 4 3) 0) (number 9)
     -- S's table, by its words, and its frame list
-    ∷ case (leaves S (replicate 40 9) (replicate 9 8)) (list (words-S ++ 8 ∷ 0 ∷ 1 ∷ 16 ∷ 0 ∷ 1 ∷ 28 ∷ 1 ∷ 2 ∷ []))
+    ∷ case (leaves S (replicate 40 9) (replicate 9 8) (replicate 3 7)) (list (words-S ++ 8 ∷ 0 ∷ 1 ∷ 16 ∷ 0 ∷ 1 ∷ 28 ∷ 1 ∷ 2 ∷ 0 ∷ 0 ∷ 7 ∷ []))
     -- the row query: a row of two entries, none, a scattered row, stray words
     ∷ case (row words-S 3) (list (3 ∷ 1 ∷ 0 ∷ 17 ∷ 0 ∷ 3 ∷ 1 ∷ 1 ∷ 32 ∷ 0 ∷ []))
     ∷ case (row words-S 5) (list [])
@@ -294,10 +295,10 @@ abbrev pub heads : List Case
 heads =
     -- S and the packing case with a head of one byte: slots are longer, and a head takes no place in a frame; two slots
     -- of one byte with a head of 16: a message ready at 1 goes in the frame of 34, and arrives at 51
-    case (lists (with-head S 1)) (list (text "(delay 50)\n(passed 0)\n(start 0 (when) (at 0))\n(start 1 (when (true 0)) (at 30))\n(start 2 (when (false 0)) (at 18))\n(start 3 (when (false 0)) (at 23))\n(start 3 (when (true 0)) (at 48))\n(send 0 (when (true 0)) (at 24) (place 0))\n(send 2 (when (true 0)) (at 42) (place 0))\n(tell 0 (when) (at 12) (place 0))\n(frame 12 (node 0) (bytes 1))\n(frame 24 (node 0) (bytes 1))\n(frame 42 (node 1) (bytes 2))\n"))
-    ∷ case (lists (with-head packing 1)) (list (text "(delay 21)\n(passed 1)\n(start 0 (when) (at 0))\n(start 1 (when) (at 12))\n(start 2 (when) (at 19))\n(start 3 (when) (at 14))\n(send 0 (when) (at 7) (place 0))\n(send 1 (when) (at 14) (place 0))\n(send 2 (when) (at 7) (place 3))\n(frame 7 (node 0) (bytes 4))\n(frame 14 (node 0) (bytes 2))\n"))
+    case (lists (with-head S 1)) (list (text "(delay 50)\n(passed (node 0) 0)\n(passed (node 1) 0)\n(start 0 (when) (at 0))\n(start 1 (when (true 0)) (at 30))\n(start 2 (when (false 0)) (at 18))\n(start 3 (when (false 0)) (at 23))\n(start 3 (when (true 0)) (at 48))\n(send 0 (when (true 0)) (at 24) (place 0))\n(send 2 (when (true 0)) (at 42) (place 0))\n(tell 0 (when) (at 12) (place 0))\n(frame 12 (node 0) (bytes 1))\n(frame 24 (node 0) (bytes 1))\n(frame 42 (node 1) (bytes 2))\n"))
+    ∷ case (lists (with-head packing 1)) (list (text "(delay 21)\n(passed (node 0) 1)\n(passed (node 1) 0)\n(start 0 (when) (at 0))\n(start 1 (when) (at 12))\n(start 2 (when) (at 19))\n(start 3 (when) (at 14))\n(send 0 (when) (at 7) (place 0))\n(send 1 (when) (at 14) (place 0))\n(send 2 (when) (at 7) (place 3))\n(frame 7 (node 0) (bytes 4))\n(frame 14 (node 0) (bytes 2))\n"))
     ∷ case (lists (with-head (plain by-urgency 1 1 (all-of 0 1 ∷ all-of 1 1 ∷ []) (arc 0 1 1 always ∷ [])) 16))
-    (list (text "(delay 52)\n(passed 0)\n(start 0 (when) (at 0))\n(start 1 (when) (at 51))\n(send 0 (when) (at 34) (place 0))\n(frame 34 (node 0) (bytes 1))\n"))
+    (list (text "(delay 52)\n(passed (node 0) 0)\n(passed (node 1) 0)\n(start 0 (when) (at 0))\n(start 1 (when) (at 51))\n(send 0 (when) (at 34) (place 0))\n(frame 34 (node 0) (bytes 1))\n"))
     -- 3 of the plan line: a head of 16 bytes and of 17; 9 goes by the data, whatever the head
     ∷ case (writes (with-head S 16) 0) (number 10)
     ∷ case (writes (with-head S 17) 0) (number 3)
@@ -309,11 +310,11 @@ heads =
     ∷ case (checks packing (headed-packing-words 0) 21) (number 17)
     ∷ []
 
--- Document 02, point 2: "Check a printed table." What a listing states: a delay, a pass-over count, and the words of
--- its entries and of its frames.
+-- Document 02, point 2: "Check a printed table." What a listing of S states: a delay, the pass-over count of node 0,
+-- with 0 for node 1, and the words of its entries and of its frames.
 abbrev pub stating : ℕ → ℕ → List ℕ → List ℕ → Result
 stating delay count words frames =
-    record { delay = delay; passed = count ∷ []; entries = entries-of words; frames = frames-of frames }
+    record { delay = delay; passed = count ∷ 0 ∷ []; entries = entries-of words; frames = frames-of frames }
 
 abbrev pub frames-S : List ℕ
 frames-S = 8 ∷ 0 ∷ 1 ∷ 16 ∷ 0 ∷ 1 ∷ 28 ∷ 1 ∷ 2 ∷ []
@@ -335,7 +336,7 @@ later-S =
 
 abbrev pub printed-tables : List Case
 printed-tables =
-    -- the planner's own; within a row in another order; moved on by a round: the passed line is the plan's
+    -- the planner's own; within a row in another order; moved on by a round: the passed lines are the plan's
     case (states S (stating 34 0 words-S frames-S)) (number 0)
     ∷ case (states S (stating 34 0 exchanged-S frames-S)) (number 0)
     ∷ case (states S (stating 42 0 later-S (16 ∷ 0 ∷ 1 ∷ 24 ∷ 0 ∷ 1 ∷ 36 ∷ 1 ∷ 2 ∷ []))) (number 0)
@@ -350,8 +351,10 @@ printed-tables =
     ∷ case (states S (stating 33 1 words-S frames-S)) (number 20)
     ∷ case (states S (stating 33 1 (edited 7 4 64) [])) (number 13)
     -- the words lent to the reader of listings: 21 leaves them, and what is read stands in front
-    ∷ case (lends (not-listed 21) (9 ∷ 9 ∷ []) (8 ∷ [])) (list (9 ∷ 9 ∷ 8 ∷ []))
-    ∷ case (lends (listed (stating 7 0 (0 ∷ 0 ∷ 0 ∷ 0 ∷ 0 ∷ []) (4 ∷ 0 ∷ 1 ∷ []))) (replicate 6 9) (replicate 4 8)) (list (0 ∷ 0 ∷ 0 ∷ 0 ∷ 0 ∷ 9 ∷ 4 ∷ 0 ∷ 1 ∷ 8 ∷ []))
+    ∷ case (lends (not-listed 21) (9 ∷ 9 ∷ []) (8 ∷ []) (7 ∷ [])) (list (9 ∷ 9 ∷ 8 ∷ 7 ∷ []))
+    ∷ case (lends (listed (stating 7 5 (0 ∷ 0 ∷ 0 ∷ 0 ∷ 0 ∷ []) (4 ∷ 0 ∷ 1 ∷ []))) (replicate 6 9) (replicate 4 8) (replicate 3 7)) (list (0 ∷ 0 ∷ 0 ∷ 0 ∷ 0 ∷ 9 ∷ 4 ∷ 0 ∷ 1 ∷ 8 ∷ 5 ∷ 0 ∷ 7 ∷ []))
+    -- in the order in which the lines of a row stand
+    ∷ case (lends (listed (stating 34 0 exchanged-S [])) (replicate 41 9) [] []) (list (exchanged-S ++ 9 ∷ 0 ∷ 0 ∷ []))
     -- the input up to its first empty line, and behind it; without an empty line, with one at the front, with several
     ∷ case (plan-of (text "(a)\n(b)\n\n(c)\n\n")) (list (text "(a)\n(b)\n"))
     ∷ case (listing-of (text "(a)\n(b)\n\n(c)\n\n")) (list (text "(c)\n\n"))
@@ -361,6 +364,52 @@ printed-tables =
     ∷ case (listing-of (text "\n(a)\n")) (list (text "(a)\n"))
     ∷ case (says nothing) (list (text "(accepted)\n"))
     ∷ case (says (refused 22)) (list (text "(refused 22)\n"))
+    ∷ []
+
+-- Document 02, point 3: "Pass-overs for each unit." Slots of one byte, node 1's first; node 0 sends three messages and
+-- node 1 two, each of a byte.
+abbrev pub crossed : Lines
+crossed =
+    record {
+      plan = line 1 by-urgency;
+      slots = slot 1 1 ∷ slot 0 1 ∷ [];
+      processes = all-of 0 1 ∷ all-of 1 1 ∷ all-of 1 1 ∷ all-of 1 1 ∷ all-of 1 1 ∷ all-of 0 1 ∷ all-of 0 1 ∷ [];
+      conditions = [];
+      edges = arc 0 2 1 always ∷ arc 0 3 1 always ∷ arc 0 4 1 always ∷ arc 1 5 1 always ∷ arc 1 6 1 always ∷ [];
+    }
+
+-- what a listing of it states, with the counts of nodes 0 and 1
+abbrev pub crossed-stating : ℕ → ℕ → Result
+crossed-stating first second =
+    let r : Result = result crossed in
+    record { delay = r .delay; passed = first ∷ second ∷ []; entries = r .entries; frames = r .frames }
+
+-- three slots of a byte in the order 2, 0, 1: node 2 decides a condition, tells it, and sends two messages
+abbrev pub three-nodes : Lines
+three-nodes =
+    record {
+      plan = line 1 by-urgency;
+      slots = slot 2 1 ∷ slot 0 1 ∷ slot 1 1 ∷ [];
+      processes = all-of 2 1 ∷ all-of 0 1 ∷ all-of 1 1 ∷ [];
+      conditions = 0 ∷ [];
+      edges = arc 0 1 1 always ∷ arc 0 2 1 (on true 0) ∷ [];
+    }
+
+abbrev pub passed-nodes : List Case
+passed-nodes =
+    -- in node order, whatever the slot order, and by the node whose slot it is
+    case (lists crossed) (list (text "(delay 7)\n(passed (node 0) 2)\n(passed (node 1) 1)\n(start 0 (when) (at 0))\n(start 1 (when) (at 0))\n(start 2 (when) (at 2))\n(start 3 (when) (at 4))\n(start 4 (when) (at 6))\n(start 5 (when) (at 3))\n(start 6 (when) (at 5))\n(send 0 (when) (at 1) (place 0))\n(send 1 (when) (at 3) (place 0))\n(send 2 (when) (at 5) (place 0))\n(send 3 (when) (at 2) (place 0))\n(send 4 (when) (at 4) (place 0))\n(frame 1 (node 0) (bytes 1))\n(frame 2 (node 1) (bytes 1))\n(frame 3 (node 0) (bytes 1))\n(frame 4 (node 1) (bytes 1))\n(frame 5 (node 0) (bytes 1))\n"))
+    ∷ case (passes three-nodes) (list (0 ∷ 0 ∷ 3 ∷ []))
+    -- "Added up they give the old count": the slots that passed an item over, in all combinations
+    ∷ case (passes-in-all crossed) (number 3)
+    ∷ case (passes-in-all three-nodes) (number 3)
+    ∷ case (passes-in-all packing) (number 1)
+    ∷ case (passes-in-all S) (number 0)
+    -- 22 compares node by node: its own; counts of two nodes exchanged; the sum on every line; the sum on the first
+    ∷ case (states crossed (crossed-stating 2 1)) (number 0)
+    ∷ case (states crossed (crossed-stating 1 2)) (number 22)
+    ∷ case (states crossed (crossed-stating 3 3)) (number 22)
+    ∷ case (states crossed (crossed-stating 3 0)) (number 22)
     ∷ []
 
 abbrev pub Hold : List Case → Type 0
@@ -386,12 +435,16 @@ pub printed-tables-hold : Hold printed-tables
 unfolding computing
 printed-tables-hold = refl
 
+pub passed-nodes-hold : Hold passed-nodes
+unfolding computing
+passed-nodes-hold = refl
+
 -- S's listing states S's table.
-pub S-states : States S (text "(delay 34)\n(passed 0)\n(start 0 (when) (at 0))\n(start 1 (when (true 0)) (at 20))\n(start 2 (when (false 0)) (at 12))\n(start 3 (when (false 0)) (at 17))\n(start 3 (when (true 0)) (at 32))\n(send 0 (when (true 0)) (at 16) (place 0))\n(send 2 (when (true 0)) (at 28) (place 0))\n(tell 0 (when) (at 8) (place 0))\n(frame 8 (node 0) (bytes 1))\n(frame 16 (node 0) (bytes 1))\n(frame 28 (node 1) (bytes 2))\n") (stating 34 0 words-S frames-S)
+pub S-states : States S (text "(delay 34)\n(passed (node 0) 0)\n(passed (node 1) 0)\n(start 0 (when) (at 0))\n(start 1 (when (true 0)) (at 20))\n(start 2 (when (false 0)) (at 12))\n(start 3 (when (false 0)) (at 17))\n(start 3 (when (true 0)) (at 32))\n(send 0 (when (true 0)) (at 16) (place 0))\n(send 2 (when (true 0)) (at 28) (place 0))\n(tell 0 (when) (at 8) (place 0))\n(frame 8 (node 0) (bytes 1))\n(frame 16 (node 0) (bytes 1))\n(frame 28 (node 1) (bytes 2))\n") (stating 34 0 words-S frames-S)
 unfolding computing
 S-states =
     record {
-      one-count = refl;
+      count-for-each = refl;
       all-short = refl;
       all-listable = refl;
       in-order = refl;

@@ -1,11 +1,11 @@
--- Document 01, "Table and frame list": what the planning program prints.
+-- Document 01, "Table and frame list": what the planning program prints, with the passed lines of document 02, point 3.
 -- Assumes nothing.
-use Prim.Native.Nat.{ℕ, _/_, _%_, _^_}
+use Prim.Native.Nat.{ℕ, suc, _/_, _%_, _^_}
 use mathlib.Core.Bool.{Bool, _||_}
 use mathlib.Core.List.{List, [], _∷_, _++_}
 use lib.Dec.{eqb, ltb}
-use lib.ListN.{length}
-use Rattle.lists.specs.Lists.{if_then_else_, each, sum}
+use lib.ListN.{length, take}
+use Rattle.lists.specs.Lists.{if_then_else_, each}
 use Rattle.model.specs.Plan.{Lines, conditions}
 use Rattle.model.specs.Bus.{rows, is-process, is-edge, row-edge, row-condition}
 use Rattle.model.specs.Refusals.{Refusal, nothing, sentence, or-else, plan-refusal}
@@ -43,15 +43,22 @@ frame-line f = text "(frame " ++ decimal (f .tick) ++ text " " ++ field "node" (
 unfoldable pub refused-line : ℕ → List ℕ
 refused-line n = field "refused" n ++ text "\n"
 
-unfoldable pub passed-lines : List ℕ → List ℕ
-passed-lines passed = field "passed" (sum passed) ++ text "\n"
+-- Document 02, point 3: "the listing's passed line becomes one line for each node, `(passed (node 0) 0)`, in node
+-- order": the lines of some counts, from node n on
+unfoldable pub passed-line : ℕ → ℕ → List ℕ
+passed-line n count = text "(passed " ++ field "node" n ++ text " " ++ decimal count ++ text ")\n"
+
+unfoldable pub passed-lines : ℕ → List ℕ → List ℕ
+passed-lines n [] = []
+passed-lines n (count ∷ counts) = passed-line n count ++ passed-lines (suc n) counts
 
 unfoldable pub listing : Lines → ℕ → List ℕ → List Entry → List Frame → List ℕ
-listing p delay passed es fs = field "delay" delay ++ text "\n" ++ passed-lines passed ++ each (entry-line p) es ++ each frame-line fs
+listing p delay passed es fs = field "delay" delay ++ text "\n" ++ passed-lines 0 passed ++ each (entry-line p) es ++ each frame-line fs
 
--- the listing of a table and a frame list as words, with the worst delay and the pass-over count
-unfoldable pub words-listing : Lines → ℕ → ℕ → List ℕ → List ℕ → List ℕ
-words-listing p delay count table fs = listing p delay (count ∷ []) (entries-of table) (frames-of fs)
+-- the listing of a table and a frame list as words, with the worst delay and the counts of the plan's nodes, which
+-- stand in front of some words
+unfoldable pub words-listing : Lines → ℕ → List ℕ → List ℕ → List ℕ → List ℕ
+words-listing p delay passed table fs = listing p delay (take (length (p .slots)) passed) (entries-of table) (frames-of fs)
 
 -- "A refusal prints `(refused 9)`, with its number, alone."
 unfoldable pub printed : Lines → Answer → List ℕ
@@ -64,7 +71,7 @@ unfoldable pub program-prints : Reading → List ℕ
 program-prints (not-read n) = refused-line n
 program-prints (reads p) = printed p (plan-answer p 15000 6000)
 
--- the listing of a plan: its worst delay, pass-over count, start table and frame list
+-- the listing of a plan: its worst delay, the pass-over counts of its nodes, start table and frame list
 unfoldable pub plan-listing : Lines → List ℕ
 plan-listing p = printed p (made (result p))
 

@@ -1,5 +1,5 @@
 -- Document 02, point 2, "Check a printed table": what a listing text means, refusals 21 and 22, and what the program
--- that checks a printed table prints.
+-- that checks a printed table prints. Point 3 has the passed lines.
 -- Assumes nothing.
 use Prim.Native.Nat.{ℕ, _^_, _≤_}
 use mathlib.Core.Path.{_≡_}
@@ -7,7 +7,7 @@ use mathlib.Core.Bool.{Bool, true, not, _&&_, _||_}
 use mathlib.Core.List.{List, [], _∷_, _++_}
 use lib.Dec.{eqb, leb, ltb}
 use lib.ListN.{length}
-use Rattle.lists.specs.Lists.{if_then_else_, all, each, sum, same-numbers}
+use Rattle.lists.specs.Lists.{if_then_else_, all, each, same-numbers}
 use Rattle.lists.specs.Front.{front}
 use Rattle.model.specs.Plan.{Lines}
 use Rattle.model.specs.Bus.{rows, is-process}
@@ -45,10 +45,11 @@ frame-numbers f = f .tick ∷ f .node ∷ f .used ∷ []
 unfoldable pub listing-numbers : Result → List ℕ
 listing-numbers r = (r .delay ∷ r .passed) ++ each entry-numbers (r .entries) ++ each frame-numbers (r .frames)
 
--- "a listing as printed in document 01": a text states what prints as it, with one pass-over count. "over 3,000 entries
+-- "a listing as printed in document 01": a text states what prints as it. Point 3: "one line for each node [..], in
+-- node order", and "A listing with the old line, other nodes or another order is not of the form." "over 3,000 entries
 -- or 2,000 frames" is 21 as well.
 pub record States (p : Lines) (bytes : List ℕ) (r : Result) : Type 0 where
-  pub one-count : length (r .passed) ≡ 1
+  pub count-for-each : length (r .passed) ≡ length (p .slots)
   pub all-short : all short (listing-numbers r) ≡ true
   pub all-listable : all (listable p) (r .entries) ≡ true
   pub in-order : rows-in-order 0 (r .entries) ≡ true
@@ -66,7 +67,7 @@ pub data Answers-listing (p : Lines) (bytes : List ℕ) : Listed → Type 0 wher
   no-listing : ((r : Result) → States p bytes r → ⊥) → Answers-listing p bytes (not-listed 21)
   a-listing : (r : Result) → States p bytes r → Answers-listing p bytes (listed r)
 
--- what the words lent for entries and for frames hold afterwards
+-- what the words lent for entries, for frames and for the counts of the nodes hold afterwards
 unfoldable pub listed-words : Listed → List ℕ → List ℕ
 listed-words (not-listed n) lent = lent
 listed-words (listed r) lent = front (entry-words (r .entries)) lent
@@ -75,23 +76,24 @@ unfoldable pub listed-frames : Listed → List ℕ → List ℕ
 listed-frames (not-listed n) lent = lent
 listed-frames (listed r) lent = front (frame-words (r .frames)) lent
 
+unfoldable pub listed-counts : Listed → List ℕ → List ℕ
+listed-counts (not-listed n) lent = lent
+listed-counts (listed r) lent = front (r .passed) lent
+
 -- 22: "its frame lines are not those its entries give, or its passed line is not the plan's pass-over count, tried
--- after 20"; "frame lines out of order meet 22". The count is that of the plan's own planning, whatever the listing's
--- table is.
+-- after 20"; "frame lines out of order meet 22". The counts, one for each node since point 3, are those of the plan's
+-- own planning, whatever the listing's table is.
 unfoldable pub other-frames : Lines → Result → Bool
 other-frames p r = not (same-numbers (frame-words (r .frames)) (frame-words (frames p (r .entries))))
 
-unfoldable pub pass-overs : Lines → List ℕ
-pass-overs p = sum (result p .passed) ∷ []
-
-unfoldable pub other-count : Lines → Result → Bool
-other-count p r = not (same-numbers (r .passed) (pass-overs p))
+unfoldable pub other-counts : Lines → Result → Bool
+other-counts p r = not (same-numbers (r .passed) (result p .passed))
 
 -- what is refused of what a listing states, for a plan in which 2 to 9 find nothing: 12 to 20, and then 22
 unfoldable pub stated-refusal : Lines → Result → Refusal
 stated-refusal p r =
     or-else (table-refusal p (entry-words (r .entries)) (r .delay))
-    (sentence 22 (other-frames p r || other-count p r) nothing)
+    (sentence 22 (other-frames p r || other-counts p r) nothing)
 
 -- the same of a listing text by what it is read as: 21 is "tried after 9", and so before these
 unfoldable pub listed-refusal : Lines → Listed → Refusal

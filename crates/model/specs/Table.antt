@@ -9,11 +9,11 @@ use lib.ListN.{length}
 use Rattle.lists.specs.Lists.{if_then_else_, keep, each, below, sum, greatest}
 use Rattle.lists.specs.Ordered.{put-all}
 use Rattle.lists.specs.Front.{front}
-use Rattle.model.specs.Plan.{Lines}
+use Rattle.model.specs.Plan.{Lines, Slot}
 use Rattle.model.specs.Activity.{Heard, unheard, heard, combinations}
-use Rattle.model.specs.Bus.{rows, is-process, row-node, row-bytes}
+use Rattle.model.specs.Bus.{beginning, rows, is-process, row-node, row-bytes}
 use Rattle.model.specs.Log.{Placed, Log, of-row, full-ticks, over, known, delay}
-use Rattle.model.specs.Planning.{State, planned}
+use Rattle.model.specs.Planning.{State, view, passes-over, before, bound, planned}
 use Rattle.model.specs.Refusals.{Refusal, nothing, refused, sentence, or-else, plan-refusal}
 
 -- "five to an entry: row, bits of known conditions, their values, tick, place in the frame (0 for processes)"
@@ -100,9 +100,8 @@ wider f g = record { tick = g .tick; node = g .node; used = max (f .used) (g .us
 unfoldable pub frames : Lines → List Entry → List Frame
 frames p es = put-all frame-key wider (map (frame-of p) (keep (λ e. not (is-process p (e .row))) es)) []
 
--- What the planner gives where nothing is refused. "The pass-over count sums, over all combinations, every slot in
--- which a ready item of its node was not taken": `passed` has the count of each node, and the pass-over count is their
--- sum.
+-- What the planner gives where nothing is refused. Document 02, point 3: "The planner now keeps a count for each
+-- sending node": `passed`, in node order.
 pub record Result : Type 0 where
   pub delay : ℕ
   pub passed : List ℕ
@@ -111,6 +110,15 @@ pub record Result : Type 0 where
 
 unfoldable pub passed-by : List Planned → ℕ → ℕ
 passed-by ss n = sum (map (λ s. length (keep (eqb n) (s .state .passed))) ss)
+
+-- The old count. "The pass-over count sums, over all combinations, every slot in which a ready item of its node was not
+-- taken": the slots of a combination that did so, each as often as it occurs, and how many there are in all of them.
+-- "Added up they give the old count" (`pass-overs-added` in laws).
+unfoldable pub passing-slots : Lines → List Bool → List Slot
+passing-slots p c = each (λ t. keep (passes-over p (view p c (before p c t .log) t) t) (beginning p t)) (below (bound p))
+
+unfoldable pub pass-over-count : Lines → ℕ
+pass-over-count p = sum (map (λ c. length (passing-slots p c)) (combinations p))
 
 unfoldable pub result : Lines → Result
 result p =
@@ -174,3 +182,7 @@ table-after (made r) lent = front (entry-words (r .entries)) lent
 unfoldable pub frames-after : Answer → List ℕ → List ℕ
 frames-after (turned-down n) lent = lent
 frames-after (made r) lent = front (frame-words (r .frames)) lent
+
+unfoldable pub counts-after : Answer → List ℕ → List ℕ
+counts-after (turned-down n) lent = lent
+counts-after (made r) lent = front (r .passed) lent

@@ -6,11 +6,10 @@ use mathlib.Core.List.{List}
 use Prim.Native.Nat.{ℕ, _≤_, _<_}
 use lib.ListN.{length}
 use borrow.Author.Tests.{lt-ltb, le-ltb}
-use Rattle.lists.specs.Lists.{sum}
 use Rattle.lists.specs.Front.{front}
 use Rattle.model.specs.Plan.{Lines}
 use Rattle.model.specs.Refusals.{nothing, refused, or-else, plan-refusal}
-use Rattle.model.specs.Table.{Answer, turned-down, made, result, entry-words, frame-words, answered, room-refusal, plan-answer, table-after, frames-after}
+use Rattle.model.specs.Table.{Answer, turned-down, made, result, entry-words, frame-words, answered, room-refusal, plan-answer, table-after, frames-after, counts-after}
 use Rattle.planner_table.specs.declared.Planned.the-variants as answer
 use Rattle.planner_table.specs.Planner.{answer-of, Answers}
 
@@ -33,27 +32,29 @@ module _ (p : Lines) (words room : ℕ) where
       unfolding plan-answer or-else answered room-refusal
       answer-made l = rw (fine, le-ltb words (length (entry-words (result p .entries))) enough, le-ltb room (length (frame-words (result p .frames))) l)
 
-module _ (p : Lines) (table frames : List ℕ) where
+module _ (p : Lines) (table frames passed : List ℕ) where
   -- A refusal leaves the lent words as they were.
-  pub refused-answers : (n : ℕ) → plan-answer p (length table) (length frames) ≡ turned-down n → {table-now frames-now : List ℕ} → table-now ≡ table → frames-now ≡ frames →
-      Answers p (answer.Refused n) table frames table-now frames-now
-  unfolding answer-of table-after frames-after
-  refused-answers n e t f =
+  pub refused-answers : (n : ℕ) → plan-answer p (length table) (length frames) ≡ turned-down n → {table-now frames-now passed-now : List ℕ} →
+      table-now ≡ table → frames-now ≡ frames → passed-now ≡ passed → Answers p (answer.Refused n) table frames passed table-now frames-now passed-now
+  unfolding answer-of table-after frames-after counts-after
+  refused-answers n e t f k =
       record {
         answer = sym (ap answer-of e);
         words = t ∙ sym (ap (λ (a : Answer). table-after a table) e);
         frame-words = f ∙ sym (ap (λ (a : Answer). frames-after a frames) e);
+        counts = k ∙ sym (ap (λ (a : Answer). counts-after a passed) e);
       }
 
-  -- Where nothing is refused the table and the frame list stand at the front.
-  pub made-answers : plan-answer p (length table) (length frames) ≡ made (result p) → {words room delay passed : ℕ} → words ≡ length (entry-words (result p .entries)) →
-      room ≡ length (frame-words (result p .frames)) → delay ≡ result p .delay → passed ≡ sum (result p .passed) → {table-now frames-now : List ℕ} →
-      table-now ≡ front (entry-words (result p .entries)) table → frames-now ≡ front (frame-words (result p .frames)) frames →
-      Answers p (answer.Made (record { words = words; framewords = room; delay = delay; passed = passed })) table frames table-now frames-now
-  unfolding answer-of table-after frames-after
-  made-answers e a b c d t f =
+  -- Where nothing is refused the table, the frame list and the counts of the nodes stand at the front.
+  pub made-answers : plan-answer p (length table) (length frames) ≡ made (result p) → {words room delay : ℕ} → words ≡ length (entry-words (result p .entries)) →
+      room ≡ length (frame-words (result p .frames)) → delay ≡ result p .delay → {table-now frames-now passed-now : List ℕ} →
+      table-now ≡ front (entry-words (result p .entries)) table → frames-now ≡ front (frame-words (result p .frames)) frames → passed-now ≡ front (result p .passed) passed →
+      Answers p (answer.Made (record { words = words; framewords = room; delay = delay })) table frames passed table-now frames-now passed-now
+  unfolding answer-of table-after frames-after counts-after
+  made-answers e a b c t f k =
       record {
-        answer = (λ i. answer.Made (record { words = a i; framewords = b i; delay = c i; passed = d i })) ∙ sym (ap answer-of e);
+        answer = (λ i. answer.Made (record { words = a i; framewords = b i; delay = c i })) ∙ sym (ap answer-of e);
         words = t ∙ sym (ap (λ (a : Answer). table-after a table) e);
         frame-words = f ∙ sym (ap (λ (a : Answer). frames-after a frames) e);
+        counts = k ∙ sym (ap (λ (a : Answer). counts-after a passed) e);
       }

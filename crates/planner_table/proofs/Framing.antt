@@ -1,26 +1,20 @@
--- The frames that are collected from the entries listed are those of the plan's frame list, and the pass-overs of the
--- nodes add up to the pass-over count.
+-- The frames that are collected from the entries listed are those of the plan's frame list.
 -- Assumes nothing.
 use mathlib.Core.Path.{_≡_, sym, ap, _∙_}
-use mathlib.Core.List.{List, map}
-use Prim.Native.Nat.{ℕ, _+_, _*_, _≤_, _<_}
+use mathlib.Core.List.{List}
+use Prim.Native.Nat.{ℕ, _*_, _≤_, _<_}
 use native.Mathlib.Omega.{arith}
 use lib.ListN.{length, getD, take}
-use Rattle.lists.specs.Lists.{below, sum}
 use Rattle.lists.specs.Front.{front}
-use Rattle.lists.proofs.Keep.{map-upfrom}
-use Rattle.lists.proofs.Sums.{sum-split}
 use Rattle.model.specs.Plan.{Lines}
 use Rattle.model.specs.Bus.{rows}
 use Rattle.model.specs.Refusals.{nothing, plan-refusal}
-use Rattle.model.specs.Table.{plans, row-entries, passed-by, result, entry-words, frame-words}
+use Rattle.model.specs.Table.{plans, row-entries, result, entry-words, frame-words}
 use Rattle.plan_index.specs.declared.index.PlanIndex.{PlanIndex}
 use Rattle.plan_index.specs.Indexed.{Indexed}
 use Rattle.table_entries.specs.Words.{Laid, table}
 use Rattle.table_frames.specs.Packed.{Rows, Holding, packed-frames, packed-words}
 use Rattle.table_frames.proofs.FramesOfModel.{collected-words, collected-small, collected-count}
-use Rattle.planner_combinations.specs.declared.Totals.{Totals}
-use Rattle.planner_combinations.specs.Combinations.{Planned-all}
 use Rattle.planner_table.specs.Planner.{Entered}
 
 -- the entries lie row after row, as many as counted
@@ -73,15 +67,3 @@ words-front b list ends count p o e lent q = q ∙ ap (λ (k : ℕ). front (tabl
 
 pub frames-front : (p : Lines) (out : List ℕ) (n : ℕ) → Framed p out n → (lent : List ℕ) {now : List ℕ} → now ≡ front (packed-words (take n out)) lent → now ≡ front (frame-words (result p .frames)) lent
 frames-front p out n f lent q = q ∙ ap (λ (ws : List ℕ). front ws lent) (f .words)
-
--- One turn of adding up the pass-overs.
-pub sum-next : (f : ℕ → ℕ) (n : ℕ) → sum (map f (below (n + 1))) ≡ sum (map f (below n)) + f n
-sum-next f n = let q : 0 + n ≡ n = omega arith in omega (arith, sum-split f 0 n 1, ap f q)
-
--- the pass-over count of a plan
-pub pass-overs-sum : (p : Lines) (lasting : List ℕ) (t : Totals) (comes place since : List ℕ) → Planned-all p lasting t comes place since → (slots : ℕ) → slots ≡ length (p .slots) →
-    sum (map (λ n. getD (t .passed) n 0) (below slots)) ≡ sum (result p .passed)
-unfolding result
-pass-overs-sum p lasting t comes place since a slots e =
-    ap (λ (k : ℕ). sum (map (λ n. getD (t .passed) n 0) (below k))) e
-    ∙ ap sum (map-upfrom (λ n. getD (t .passed) n 0) (passed-by (plans p)) 0 (length (p .slots)) (λ k l u. a .passed k (omega arith)))

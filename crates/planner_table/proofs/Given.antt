@@ -1,14 +1,14 @@
 -- What the planner made stands at the front of what was lent: its answer in memory is one of the model, the lent words
--- suffice, and the first of them are the table's and the frame list's.
+-- suffice, and the first of them are the table's, the frame list's and the counts of the nodes.
 -- Assumes nothing.
-use mathlib.Core.Path.{_≡_, refl, ap, _∙_}
+use mathlib.Core.Path.{_≡_, refl, ap, sym, _∙_}
 use mathlib.Core.Bool.{Bool, true, false}
 use mathlib.Core.List.{List}
 use Prim.Native.Nat.{ℕ, _≤_}
 use native.Mathlib.Omega.{arith}
 use borrow.Author.Tests.{ltb-false}
 use lib.ListN.{length, take}
-use Rattle.lists.specs.Lists.{sum}
+use Rattle.limits.specs.Limits.{NODES}
 use Rattle.lists.specs.Front.{front}
 use Rattle.lists.proofs.Front.{front-length, front-written}
 use Rattle.model.specs.Plan.{Lines}
@@ -26,7 +26,10 @@ use Rattle.model.specs.Table.{
   plan-answer,
   table-after,
   frames-after,
+  counts-after,
 }
+use Rattle.laws.proofs.Good.{good}
+use Rattle.laws.proofs.Words.{counts-each}
 use Rattle.planner_table.specs.declared.Made.{Made}
 use Rattle.planner_table.specs.declared.Planned.the-variants as answer
 use Rattle.planner_table.specs.Planner.{answer-of}
@@ -68,15 +71,14 @@ pub record Was-made (a : Answer) (m : Made) : Type 0 where
   pub words : m .words ≡ length (entry-words (result .entries))
   pub framewords : m .framewords ≡ length (frame-words (result .frames))
   pub delay : m .delay ≡ result .delay
-  pub passed : m .passed ≡ sum (result .passed)
 
 pub was-made : (a : Answer) (m : Made) → answer.Made m ≡ answer-of a → Was-made a m
 unfolding answer-of
 was-made (turned-down n) m e = absurd (let z : _≡_ {A = ℕ} 0 1 = cc in omega arith)
-was-made (made r) m e = record { result = r; is-made = refl; words = cc; framewords = cc; delay = cc; passed = cc }
+was-made (made r) m e = record { result = r; is-made = refl; words = cc; framewords = cc; delay = cc }
 
--- the words that were made were lent, and stand at the front of what was lent
-pub record Stands (a : Answer) (m : Made) (table frames table-now frames-now : List ℕ) : Type 0 where
+-- the words that were made were lent, and stand at the front of what was lent; and so do the counts, one for each node
+pub record Stands (p : Lines) (a : Answer) (m : Made) (table frames passed table-now frames-now passed-now : List ℕ) : Type 0 where
   pub was : Was-made a m
   pub lent : m .words ≤ length table
   pub frames-lent : m .framewords ≤ length frames
@@ -84,28 +86,38 @@ pub record Stands (a : Answer) (m : Made) (table frames table-now frames-now : L
   pub frames-within : m .framewords ≤ length frames-now
   pub table-words : take (m .words) table-now ≡ entry-words (was .result .entries)
   pub frames-words : take (m .framewords) frames-now ≡ frame-words (was .result .frames)
+  pub counts : passed-now ≡ front (was .result .passed) passed
+  pub counts-many : length (was .result .passed) ≡ length (p .slots)
+  pub counts-few : length (p .slots) ≤ NODES
+  pub counts-words : take (length (p .slots)) passed-now ≡ was .result .passed
 
 front-within : (words lent now : List ℕ) → now ≡ front words lent → length words ≤ length lent → length words ≤ length now
 front-within words lent now e l = omega (arith, ap length e, front-length words lent l)
 
-module _ (p : Lines) (table frames table-now frames-now : List ℕ) (m : Made) where
+module _ (p : Lines) (table frames passed table-now frames-now passed-now : List ℕ) (m : Made) where
   pub stands : answer.Made m ≡ answer-of (plan-answer p (length table) (length frames)) →
       table-now ≡ table-after (plan-answer p (length table) (length frames)) table →
       frames-now ≡ frames-after (plan-answer p (length table) (length frames)) frames →
-      Stands (plan-answer p (length table) (length frames)) m table frames table-now frames-now
-  unfolding table-after frames-after
-  stands e t f =
+      passed-now ≡ counts-after (plan-answer p (length table) (length frames)) passed →
+      Stands p (plan-answer p (length table) (length frames)) m table frames passed table-now frames-now passed-now
+  unfolding table-after frames-after counts-after
+  stands e t f c =
       let a : Answer = plan-answer p (length table) (length frames) in
       let w = was-made a m e in
       let s = made-suffice p (length table) (length frames) (w .result) (w .is-made) in
       let es : List ℕ = entry-words (w .result .entries) in
       let fs : List ℕ = frame-words (w .result .frames) in
+      let cs : List ℕ = w .result .passed in
       let t' : table-now ≡ front es table = t ∙ ap (λ (x : Answer). table-after x table) (w .is-made) in
       let f' : frames-now ≡ front fs frames = f ∙ ap (λ (x : Answer). frames-after x frames) (w .is-made) in
+      let c' : passed-now ≡ front cs passed = c ∙ ap (λ (x : Answer). counts-after x passed) (w .is-made) in
       let l : length es ≤ length table = omega (arith, ap (λ (r : Result). length (entry-words (r .entries))) (s .same), s .enough) in
       let k : length fs ≤ length frames = omega (arith, ap (λ (r : Result). length (frame-words (r .frames))) (s .same), s .frames-enough) in
+      let few : length (p .slots) ≤ NODES = good p (s .passes) .few-slots in
+      let many : length cs ≡ length (p .slots) = ap (λ (r : Result). length (r .passed)) (s .same) ∙ counts-each p in
       let first : take (m .words) table-now ≡ es = ap (λ (n : ℕ). take n table-now) (w .words) ∙ ap (take (length es)) t' ∙ front-written es table in
       let second : take (m .framewords) frames-now ≡ fs = ap (λ (n : ℕ). take n frames-now) (w .framewords) ∙ ap (take (length fs)) f' ∙ front-written fs frames in
+      let third : take (length (p .slots)) passed-now ≡ cs = ap (λ (n : ℕ). take n passed-now) (sym many) ∙ ap (take (length cs)) c' ∙ front-written cs passed in
       record {
         was = w;
         lent = omega (arith, w .words);
@@ -114,4 +126,13 @@ module _ (p : Lines) (table frames table-now frames-now : List ℕ) (m : Made) w
         frames-within = omega (arith, w .framewords, front-within fs frames frames-now f' k);
         table-words = first;
         frames-words = second;
+        counts = c';
+        counts-many = many;
+        counts-few = few;
+        counts-words = third;
       }
+
+-- an array with a place for each node, lent for the counts, is as long afterwards
+pub counts-long : {p : Lines} {a : Answer} {m : Made} {table frames passed table-now frames-now passed-now : List ℕ} →
+    Stands p a m table frames passed table-now frames-now passed-now → length passed ≡ NODES → length passed-now ≡ NODES
+counts-long {passed = passed} s long = ap length (s .counts) ∙ front-length (s .was .result .passed) passed (omega (arith, s .counts-many, s .counts-few, long)) ∙ long

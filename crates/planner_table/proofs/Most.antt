@@ -27,6 +27,7 @@ use Rattle.laws.proofs.Bound.{bound-small, delay-within}
 use Rattle.laws.proofs.Combinations.{combination-length}
 use Rattle.laws.proofs.Good.{good}
 use Rattle.laws.proofs.Lawful.{count-one}
+use Rattle.laws.proofs.Passed.{plan-in}
 use Rattle.laws.proofs.Rules.{Kept}
 use Rattle.laws.proofs.Safety.{planning-keeps}
 use Rattle.laws.proofs.Words.{entry-words-count, frame-words-count}
@@ -47,26 +48,19 @@ parts-most f m n k l first all =
 
 module _ (p : Lines) (fine : plan-refusal p ≡ nothing) where
   -- six conditions have 64 combinations
-  pub plans-few : length (plans p) ≤ 64
+  plans-few : length (plans p) ≤ 64
   unfolding plans
   plans-few =
       let q : 2 ^ length (p .conditions) ≤ 2 ^ 6 = pow-le-pow-right (omega arith) (good p fine .few-conditions) in
       let n : length (plans p) ≡ length (combinations p) = length-map (combinations p) (λ c. record { combination = c; state = planned p c }) in
       omega (arith, combinations-count (length (p .conditions)))
 
-  -- the combination of a plan
-  pub plan-in : (s : Planned) → In s (plans p) → (c : List Bool) × (length c ≡ length (p .conditions)) × (s .state ≡ planned p c)
-  unfolding plans
-  plan-in s i =
-      let c = map-in (λ c. record { combination = c; state = planned p c }) (combinations p) i in
-      (c .0, combination-length p (c .0) (c .1), ap (λ (z : Planned). z .state) (c .2))
-
   -- the worst delay of all combinations is within document 01's bound, and so a tick that a table can name
   pub delay-bounded : result p .delay ≤ bound p
   unfolding result
   delay-bounded =
       greatest-le (λ s. delay p (full-ticks p) (s .state .log)) (bound p) (plans p) (λ s i.
-      let c = plan-in s i in
+      let c = plan-in p s i in
       omega (arith, ap (λ (z : State). delay p (full-ticks p) (z .log)) (c .2), delay-within p (c .0) fine (c .1)))
 
   pub delay-most : result p .delay ≤ 999999999

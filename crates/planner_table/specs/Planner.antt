@@ -5,11 +5,10 @@ use mathlib.Core.Path.{_≡_}
 use mathlib.Core.List.{List, map}
 use lib.ListN.{length, getD}
 use lib.Seq.{slice}
-use Rattle.lists.specs.Lists.{sum}
 use Rattle.model.specs.Plan.{Lines}
 use Rattle.model.specs.Bus.{rows}
 use Rattle.model.specs.Refusals.{nothing, plan-refusal}
-use Rattle.model.specs.Table.{Answer, turned-down, made, plans, row-entries, result, entry-words, frame-words, plan-answer, table-after, frames-after}
+use Rattle.model.specs.Table.{Answer, turned-down, made, plans, row-entries, result, entry-words, frame-words, plan-answer, table-after, frames-after, counts-after}
 use Rattle.plan_index.specs.declared.index.PlanIndex.{PlanIndex}
 use Rattle.plan_index.specs.Indexed.{Indexed}
 use Rattle.table_entries.specs.Logs.{Logs}
@@ -21,12 +20,12 @@ use Rattle.planner_table.specs.declared.Made.{Made}
 use Rattle.planner_table.specs.declared.Planned.{Planned}
 use Rattle.planner_table.specs.declared.Planned.the-variants as answer
 
--- The answer in memory: a refusal's number, or how many words of the table and of the frame list are written, the worst
--- delay and the pass-over count.
+-- The answer in memory: a refusal's number, or how many words of the table and of the frame list are written, and the
+-- worst delay.
 unfoldable pub answer-of : Answer → Planned
 answer-of (turned-down n) = answer.Refused n
 answer-of (made r) =
-    answer.Made (record { words = length (entry-words (r .entries)); framewords = length (frame-words (r .frames)); delay = r .delay; passed = sum (r .passed) })
+    answer.Made (record { words = length (entry-words (r .entries)); framewords = length (frame-words (r .frames)); delay = r .delay })
 
 -- a plan index of some plan in which refusals 2 to 9 find nothing, whose logs the arrays hold
 pub record Some-logs (b : PlanIndex) (comes place since : List ℕ) : Type 0 where
@@ -50,8 +49,10 @@ pub record Entered (p : Lines) (list ends : List ℕ) (count : ℕ) : Type 0 whe
   pub counted : length (entry-words (result p .entries)) ≡ 5 * count
   pub parts : (q : ℕ) → q < rows p → slice (getD ends q 0) (getD ends (q + 1) 0) list ≡ map packed-entry (row-entries p (plans p) q)
 
--- The planner's answer, and what the lent words hold after it.
-pub record Answers (p : Lines) (r : Planned) (table frames table-now frames-now : List ℕ) : Type 0 where
+-- The planner's answer, and what the words lent for the table, the frame list and the counts of the nodes hold after
+-- it.
+pub record Answers (p : Lines) (r : Planned) (table frames passed table-now frames-now passed-now : List ℕ) : Type 0 where
   pub answer : r ≡ answer-of (plan-answer p (length table) (length frames))
   pub words : table-now ≡ table-after (plan-answer p (length table) (length frames)) table
   pub frame-words : frames-now ≡ frames-after (plan-answer p (length table) (length frames)) frames
+  pub counts : passed-now ≡ counts-after (plan-answer p (length table) (length frames)) passed

@@ -1,6 +1,8 @@
 // Planning a plan in which refusals 2 to 9 find nothing, into words that the caller lends: every combination is
-// planned, entries and frames are listed, and table and frame list are written only where both fit.
+// planned, entries and frames are listed, and table, frame list and the nodes' pass-over counts are written only where
+// both lists fit.
 // Document 01: "every lent buffer keeps its contents; an accepted call leaves words beyond its output unchanged"
+use arrays::copy_part;
 use limits::COMBINATIONS;
 use limits::ENTRIES;
 use limits::NODES;
@@ -16,10 +18,11 @@ use table_frames::collect;
 use table_frames::write_both;
 ghost use mathlib.Core.Path.{_≡_};
 ghost use mathlib.Core.List.{map};
-ghost use Prim.Native.Nat.{ℕ, _≤_, _<_};
+ghost use Prim.Native.Nat.{_≤_};
 ghost use lib.ListN.{getD, length, replicate};
 ghost use Rattle.limits.specs.Limits.{NODES, COMBINATIONS, ROWENDS, ENTRIES};
-ghost use Rattle.lists.specs.Lists.{below, sum};
+ghost use Rattle.lists.specs.Front.{front};
+ghost use Rattle.lists.specs.Lists.{below};
 ghost use Rattle.model.specs.Plan.{Lines};
 ghost use Rattle.model.specs.Refusals.{nothing, plan-refusal};
 ghost use Rattle.model.specs.Table.{result};
@@ -29,13 +32,12 @@ ghost use Rattle.table_entries.specs.Logs.{Logs};
 ghost use Rattle.planner_combinations.specs.Combinations.{Planned-all};
 ghost use Rattle.planner_table.specs.Planner.{Some-logs, Some-plans, Entered, Answers};
 
-// What the planner gives where nothing is refused: how many words of the table and of the frame list are written, the
-// worst delay, and the pass-over count.
+// What the planner answers where nothing is refused: how many words of the table and of the frame list are written, and
+// the worst delay. The counts of the nodes stand in words that the caller lends.
 pub struct Made {
     pub words: usize,
     pub framewords: usize,
     pub delay: u32,
-    pub passed: u32,
 }
 
 // The planner's answer: what it made, or the number of the refusal.
@@ -54,20 +56,6 @@ fn no_clocks() -> [u32; COMBINATIONS]
     ensures { λ r. ⌜ r ≡ replicate COMBINATIONS 0 ⌝ }
 {
     [0u32; COMBINATIONS]
-}
-
-// The pass-overs of the nodes added up.
-fn pass_overs(passed: [u32; NODES], slots: usize) -> u32
-    requires { ⌜ (slots ≤ NODES) × ((n : ℕ) → n < slots → getD passed n 0 ≤ ENTRIES) ⌝ }
-    ensures { λ r. ⌜ r ≡ sum (map (λ n. getD passed n 0) (below slots)) ⌝ }
-{
-    let mut total: u32 = 0;
-    let mut n: usize = 0;
-    while n < slots {
-        total += passed[n];
-        n += 1;
-    }
-    total
 }
 
 // The entries of the table as numbers in `list`, row r's from place ends[r] up to place ends[r + 1]. How many there are
@@ -102,8 +90,19 @@ fn list_entries<'a>(
     )
 }
 
-// Lists the entries and the frames of the table, and writes both where the lent words suffice. The lists are of ones,
-// which are stored by fewer instructions than zeros are (docs/PERFORMANCE.md); none is read before it is stored.
+// Stores the counts of the nodes, node 0's first, as the first numbers of `passed`.
+fn store_counts(t: Totals, slots: usize, passed: &mut [u32; NODES])
+    requires { ⌜ slots ≤ NODES ⌝ }
+    ensures { λ _. ⌜ now (passed .exit) ≡ front (map (λ n. getD (t .passed) n 0) (below slots))
+        (now (passed .entry)) ⌝ }
+{
+    let counts = t.passed;
+    copy_part(&counts, 0, slots, passed);
+}
+
+// Lists the entries and the frames of the table, and writes both, and the counts of the nodes, where the lent words
+// suffice. The lists are of ones, which are stored by fewer instructions than zeros are (docs/PERFORMANCE.md); none is
+// read before it is stored.
 fn write_all<'a>(
     b: PlanIndex,
     t: Totals,
@@ -112,11 +111,12 @@ fn write_all<'a>(
     since: &'a [u32; COMBINATIONS],
     table: &mut [u32],
     frames: &mut [u32],
+    passed: &mut [u32; NODES],
 ) -> Planned
     requires { ⌜ Some-plans b t (now comes) (now place) (now since) ⌝ }
     ensures { λ r. ⌜ ((p : Lines) → plan-refusal p ≡ nothing → Indexed p b → Planned-all p (b .span) t
         (now (comes .entry)) (now (place .entry)) (now (since .entry)) → Answers p r (now (table .entry))
-        (now (frames .entry)) (now (table .exit)) (now (frames .exit))) ⌝ }
+        (now (frames .entry)) (now (passed .entry)) (now (table .exit)) (now (frames .exit)) (now (passed .exit))) ⌝ }
 {
     let mut list = [1u64; ENTRIES];
     let mut ends = no_places();
@@ -135,43 +135,47 @@ fn write_all<'a>(
         &mut out,
     );
     if write_both(&list, &ends, b.rows, &out, used, table, frames) {
-        let counts = t.passed;
-        let passed = pass_overs(counts, b.slots);
+        store_counts(t, b.slots, passed);
         return Planned::Made(Made {
             words: 5 * count,
             framewords: 3 * used,
             delay: t.delay,
-            passed,
         });
     }
     Planned::Refused(11)
 }
 
-// Plans a plan in which refusals 2 to 9 find nothing. `comes` and `place` are of ones, which are stored by fewer
+// Plans a plan in which refusals 2 to 9 find nothing: the table, the frame list, and the pass-over count of each node,
+// in node order, go to the front of what is lent. `comes` and `place` are of ones, which are stored by fewer
 // instructions than zeros are (docs/PERFORMANCE.md); none is read before its combination is stored.
-pub fn plan_accepted(p: Plan, table: &mut [u32], frames: &mut [u32]) -> Planned
+pub fn plan_accepted(
+    p: Plan,
+    table: &mut [u32],
+    frames: &mut [u32],
+    passed: &mut [u32; NODES],
+) -> Planned
     requires { ⌜ plan-refusal (lines p) ≡ nothing ⌝ }
-    ensures { λ r. ⌜ Answers (lines p) r (now (table .entry)) (now (frames .entry)) (now (table .exit))
-        (now (frames .exit)) ⌝ }
+    ensures { λ r. ⌜ Answers (lines p) r (now (table .entry)) (now (frames .entry)) (now (passed .entry))
+        (now (table .exit)) (now (frames .exit)) (now (passed .exit)) ⌝ }
 {
     let b = of_plan(p);
     let mut comes = [1u32; ENTRIES];
     let mut place = [1u32; ENTRIES];
     let mut since = no_clocks();
     let t = plan_combinations(b, &mut comes, &mut place, &mut since);
-    write_all(b, t, &comes, &place, &since, table, frames)
+    write_all(b, t, &comes, &place, &since, table, frames, passed)
 }
 
-// The pass-over count of a plan in which refusals 2 to 9 find nothing, whatever room its table would need.
-pub fn count_pass_overs(p: Plan) -> u32
+// The pass-over count of each node of a plan in which refusals 2 to 9 find nothing, in node order at the front of what
+// is lent, whatever room its table would need.
+pub fn count_pass_overs(p: Plan, passed: &mut [u32; NODES])
     requires { ⌜ plan-refusal (lines p) ≡ nothing ⌝ }
-    ensures { λ r. ⌜ r ≡ sum (result (lines p) .passed) ⌝ }
+    ensures { λ _. ⌜ now (passed .exit) ≡ front (result (lines p) .passed) (now (passed .entry)) ⌝ }
 {
     let b = of_plan(p);
     let mut comes = [1u32; ENTRIES];
     let mut place = [1u32; ENTRIES];
     let mut since = no_clocks();
     let t = plan_combinations(b, &mut comes, &mut place, &mut since);
-    let counts = t.passed;
-    pass_overs(counts, b.slots)
+    store_counts(t, b.slots, passed);
 }

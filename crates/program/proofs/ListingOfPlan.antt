@@ -4,16 +4,18 @@
 use mathlib.Core.Path.{_≡_, refl, sym, ap, subst, _∙_}
 use mathlib.Core.Bool.{Bool, true, false, _||_}
 use mathlib.Core.List.{List}
-use Prim.Native.Nat.{ℕ, _≤_, _<_}
+use Prim.Native.Nat.{ℕ, _≤_, _<_, min}
 use native.Mathlib.Omega.{arith}
 use borrow.Author.Tests.{lt-ltb, le-ltb, ltb-false}
 use lib.Dec.{ltb}
 use lib.ListN.{length, take}
+use lib.Seq.{take-all}
+use Rattle.limits.specs.Limits.{NODES}
 use Rattle.model.specs.Plan.{Lines}
 use Rattle.model.specs.Refusals.{Refusal, nothing, refused, sentence, or-else, plan-refusal}
-use Rattle.model.specs.Table.{Answer, turned-down, made, Result, result, entry-words, frame-words, answered, room-refusal, plan-answer}
+use Rattle.model.specs.Table.{Answer, turned-down, made, Result, result, entry-words, frame-words, entries-of, frames-of, answered, room-refusal, plan-answer}
 use Rattle.model.specs.Text.{Written, not-written, unless-refused, fitting, bytes-after}
-use Rattle.model.specs.Listing.{words-listing, printed, plan-listing, listing-refusal, list-plan}
+use Rattle.model.specs.Listing.{listing, words-listing, printed, plan-listing, listing-refusal, list-plan}
 use Rattle.laws.proofs.Words.{printed-words}
 use Rattle.plan.specs.declared.Plan.{Plan}
 use Rattle.plan.specs.Memory.{lines}
@@ -36,12 +38,12 @@ unfolding listed-in unless-refused
 many-frames lent framewords bytes true h e = rw e refl
 many-frames lent framewords bytes false h e = rw (e, lt-ltb 6000 framewords h) refl
 
-pub many-refused : (p : Plan) (delay passed : ℕ) (table frames : List ℕ) (lent : ℕ) (b : Bool) → 6000 < length frames →
-    b ≡ ltb lent (length (listing-of (p .processes) (p .edges) (p .conditions) delay passed table frames)) →
+pub many-refused : (p : Plan) (delay : ℕ) (passed table frames : List ℕ) (nodes lent : ℕ) (b : Bool) → 6000 < length frames → length passed ≡ NODES → nodes ≡ min (p .slots) NODES →
+    b ≡ ltb lent (length (listing-of (p .processes) (p .edges) (p .conditions) delay (take nodes passed) table frames)) →
     Refused (elim b [ true ↦ 10 | false ↦ 11 ]) ≡ answer-of (listed-in lent (length frames) (words-listing (lines p) delay passed table frames))
-many-refused p delay passed table frames lent b h e =
+many-refused p delay passed table frames nodes lent b h eight few e =
     let bytes : List ℕ = words-listing (lines p) delay passed table frames in
-    let q : ltb lent (length bytes) ≡ b = ap (λ (z : List ℕ). ltb lent (length z)) (of-counts p delay passed table frames) ∙ sym e in
+    let q : ltb lent (length bytes) ≡ b = ap (λ (z : List ℕ). ltb lent (length z)) (of-counts p delay passed table frames nodes eight few) ∙ sym e in
     sym (ap answer-of (many-frames lent (length frames) bytes b h q))
 
 pub many-unchanged : (lent framewords : ℕ) (bytes out : List ℕ) → 6000 < framewords → out ≡ bytes-after (listed-in lent framewords bytes) out
@@ -62,6 +64,13 @@ pub few-listed : (lent now bytes : List ℕ) (framewords : ℕ) (l : Listed) →
     now ≡ bytes-after (written-of (length lent) bytes) lent →
     (l ≡ answer-of (listed-in (length lent) framewords bytes)) × (now ≡ bytes-after (listed-in (length lent) framewords bytes) lent)
 few-listed lent now bytes framewords l h a b = listed-so lent (few-frames (length lent) framewords bytes h) a b
+
+-- a listing names as many of the counts lent as the plan has nodes
+counts-listed : (p : Lines) (delay : ℕ) (words counts table frames : List ℕ) → take (length (p .slots)) words ≡ counts → length counts ≡ length (p .slots) →
+    words-listing p delay words table frames ≡ words-listing p delay counts table frames
+unfolding words-listing
+counts-listed p delay words counts table frames e n =
+    ap (λ (z : List ℕ). listing p delay z (entries-of table) (frames-of frames)) (e ∙ sym (take-all (length (p .slots)) counts (omega arith)))
 
 module _ (p : Lines) (fine : plan-refusal p ≡ nothing) (lent : ℕ) where
   -- the planner refuses with 10 alone, and so does the listing
@@ -86,17 +95,19 @@ module _ (p : Lines) (fine : plan-refusal p ≡ nothing) (lent : ℕ) where
   unfolding list-plan listing-refusal listed-in or-else
   made-listing r e = rw (fine, le-ltb 15000 (length (entry-words (result p .entries))) (made-suffice p 15000 9000 r e .enough)) refl
 
-  -- the words made are those of the listing
-  pub words-listed : {m : Made} {table frames table-now frames-now : List ℕ} → Stands (plan-answer p 15000 9000) m table frames table-now frames-now →
-      listed-in lent (length (take (m .framewords) frames-now)) (words-listing p (m .delay) (m .passed) (take (m .words) table-now) (take (m .framewords) frames-now)) ≡ list-plan p lent
+  -- the words made are those of the listing, which names the counts of the plan's nodes alone
+  pub words-listed : {m : Made} {table frames passed table-now frames-now passed-now : List ℕ} → Stands p (plan-answer p 15000 9000) m table frames passed table-now frames-now passed-now →
+      listed-in lent (length (take (m .framewords) frames-now)) (words-listing p (m .delay) passed-now (take (m .words) table-now) (take (m .framewords) frames-now)) ≡ list-plan p lent
   unfolding plan-listing
-  words-listed {m} {frames-now = frames-now} s =
+  words-listed {m} {frames-now = frames-now} {passed-now} s =
       let w = s .was in
-      let k = made-suffice p 15000 9000 (w .result) (w .is-made) .same in
-      (λ i. listed-in lent (length (s .frames-words i)) (words-listing p (w .delay i) (w .passed i) (s .table-words i) (s .frames-words i)))
-      ∙ ap (listed-in lent (length (frame-words (w .result .frames)))) (sym (printed-words p (w .result)))
+      let r : Result = w .result in
+      let k = made-suffice p 15000 9000 r (w .is-made) .same in
+      (λ i. listed-in lent (length (s .frames-words i)) (words-listing p (w .delay i) passed-now (s .table-words i) (s .frames-words i)))
+      ∙ ap (listed-in lent (length (frame-words (r .frames))))
+      (counts-listed p (r .delay) passed-now (r .passed) (entry-words (r .entries)) (frame-words (r .frames)) (s .counts-words) (s .counts-many) ∙ sym (printed-words p r (s .counts-many)))
       ∙ ap (λ (r : Result). listed-in lent (length (frame-words (r .frames))) (printed p (made r))) k
-      ∙ sym (made-listing (w .result) (w .is-made))
+      ∙ sym (made-listing r (w .is-made))
 
 -- the same over the words that were lent
 module _ (p : Lines) (fine : plan-refusal p ≡ nothing) (words room : ℕ) (w : words ≡ 15000) (f : room ≡ 9000) where
@@ -107,7 +118,7 @@ module _ (p : Lines) (fine : plan-refusal p ≡ nothing) (words room : ℕ) (w :
       let q : list-plan p (length out) ≡ not-written n = refused-listing p fine (length out) n ((λ i. plan-answer p (sym w i) (sym f i)) ∙ turned (plan-answer p words room) n e) in
       (sym (ap answer-of q), sym (ap (λ (z : Written). bytes-after z out) q))
 
-  pub made-words : (lent : ℕ) {m : Made} {table frames table-now frames-now : List ℕ} → Stands (plan-answer p words room) m table frames table-now frames-now →
-      listed-in lent (length (take (m .framewords) frames-now)) (words-listing p (m .delay) (m .passed) (take (m .words) table-now) (take (m .framewords) frames-now)) ≡ list-plan p lent
-  made-words lent {m} {table} {frames} {table-now} {frames-now} s =
-      words-listed p fine lent (subst (λ (a : Answer). Stands a m table frames table-now frames-now) (λ i. plan-answer p (w i) (f i)) s)
+  pub made-words : (lent : ℕ) {m : Made} {table frames passed table-now frames-now passed-now : List ℕ} → Stands p (plan-answer p words room) m table frames passed table-now frames-now passed-now →
+      listed-in lent (length (take (m .framewords) frames-now)) (words-listing p (m .delay) passed-now (take (m .words) table-now) (take (m .framewords) frames-now)) ≡ list-plan p lent
+  made-words lent {m} {table} {frames} {passed} {table-now} {frames-now} {passed-now} s =
+      words-listed p fine lent (subst (λ (a : Answer). Stands p a m table frames passed table-now frames-now passed-now) (λ i. plan-answer p (w i) (f i)) s)

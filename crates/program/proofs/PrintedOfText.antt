@@ -9,6 +9,7 @@ use native.Mathlib.Omega.{arith}
 use borrow.Author.Tests.{le-ltb, ltb-false}
 use lib.Dec.{ltb}
 use lib.ListN.{length, drop, length-append}
+use Rattle.limits.specs.Limits.{LISTING}
 use Rattle.lists.specs.Front.{front}
 use Rattle.model.specs.Plan.{Lines}
 use Rattle.model.specs.Refusals.{Refusal, nothing, sentence, or-else, plan-refusal}
@@ -31,7 +32,7 @@ abbrev Printed-for : Written → List ℕ → Type 0
 Printed-for (wrote bytes) prints = prints ≡ bytes
 Printed-for (not-written n) prints = prints ≡ refused-line n
 
-module _ (lent : ℕ) (enough : 426100 ≤ lent) where
+module _ (lent : ℕ) (enough : LISTING ≤ lent) where
   plan-prints : (p : Lines) → plan-refusal p ≡ nothing → Printed-for (list-plan p lent) (printed p (plan-answer p 15000 6000))
   unfolding list-plan listing-refusal plan-answer or-else room-refusal unless-refused answered printed plan-listing
   plan-prints p fine = rw fine (at (ltb 15000 (length (entry-words (result p .entries)))) refl)
@@ -62,7 +63,7 @@ refused-number (wrote bytes) n e = absurd (let z : _≡_ {A = ℕ} 0 1 = cc in o
 refused-number (not-written m) n e = cc
 
 -- the line of a refusal is written where as many bytes are lent
-module _ (n : ℕ) (before after : List ℕ) (r : Listed) (small : n < 4294967296) (enough : 426100 ≤ length before)
+module _ (n : ℕ) (before after : List ℕ) (r : Listed) (small : n < 4294967296) (enough : LISTING ≤ length before)
     (a : r ≡ answer-of (written-of (length before) (refused-line n))) (b : after ≡ bytes-after (written-of (length before) (refused-line n)) before) where
   line-written : written-of (length before) (refused-line n) ≡ wrote (refused-line n)
   line-written = lent-enough (length before) (refused-line n) (omega (arith, refused-length n, decimal-length 9 n (omega arith)))
@@ -76,7 +77,7 @@ module _ (n : ℕ) (before after : List ℕ) (r : Listed) (small : n < 429496729
   pub line-fits : (k : ℕ) → r ≡ Refused k → ⊥
   line-fits k e = let w : r ≡ Wrote (length (refused-line n)) = a ∙ ap answer-of line-written in let z : _≡_ {A = ℕ} 0 1 = cc in omega arith
 
-module _ (text before after : List ℕ) (r : Listed) (q : Lists-plan text before after r) (enough : 426100 ≤ length before) where
+module _ (text before after : List ℕ) (r : Listed) (q : Lists-plan text before after r) (enough : LISTING ≤ length before) where
   -- the listing, where it was written
   pub listing-printed : (n : ℕ) → r ≡ Wrote n → Prints text before after n
   unfolding bytes-after

@@ -1,5 +1,6 @@
--- The listing of a plan of at most 3,000 entries has at most 426,100 bytes: lines of entries have at most 104 bytes
--- each, lines of frames, of which there are no more than entries, at most 38, and the first two fewer than 100 in all.
+-- The listing of a plan of at most 3,000 entries has at most 426,210 bytes: lines of entries have at most 104 bytes
+-- each, lines of frames, of which there are no more than entries, at most 38, the line of the delay at most 18, and the
+-- passed lines, at most eight, at most 24 each.
 -- Assumes nothing.
 use mathlib.Core.Path.{_≡_, sym, ap, _∙_, subst}
 use mathlib.Core.Bool.{Bool, not}
@@ -7,38 +8,38 @@ use mathlib.Core.List.{List, [], map, List·Memᴰ as In}
 use Prim.Native.Nat.{ℕ, _+_, _*_, _≤_, _<_}
 use native.Mathlib.Omega.{arith}
 use borrow.Author.Tests.{ltb-false}
-use lib.Dec.{eqb}
 use lib.ListN.{length, length-map}
-use Rattle.lists.specs.Lists.{keep, each, below, sum}
-use Rattle.lists.proofs.Keep.{length-upfrom}
+use lib.Seq.{take-all}
+use Rattle.limits.specs.Limits.{LISTING}
+use Rattle.lists.specs.Lists.{keep, each}
 use Rattle.lists.proofs.Counts.{keep-short}
 use Rattle.lists.proofs.Order.{put-all-most}
-use Rattle.lists.proofs.Sums.{sum-most-in, length-each}
+use Rattle.lists.proofs.Sums.{length-each}
 use Rattle.model.specs.Plan.{Lines, process}
 use Rattle.model.specs.Bus.{is-process, sender, row-node, row-bytes, slot-of}
 use Rattle.model.specs.Log.{Placed}
-use Rattle.model.specs.Planning.{State, bound, planned}
+use Rattle.model.specs.Planning.{bound}
 use Rattle.model.specs.Refusals.{nothing, plan-refusal}
-use Rattle.model.specs.Table.{Entry, Frame, made, result, frames, frame-of, frame-key, wider, Planned, plans, passed-by, entry-of, entry-words, frame-words}
+use Rattle.model.specs.Table.{Entry, Frame, made, result, frames, frame-of, frame-key, wider, entry-of, entry-words, frame-words}
 use Rattle.model.specs.Listing.{printed, plan-listing}
 use Rattle.text_grammar.proofs.Numbers.{decimal-length}
 use Rattle.laws.proofs.Bound.{bound-small}
 use Rattle.laws.proofs.Entries.{final, Made, entries-in}
-use Rattle.laws.proofs.Events.{passed-few}
 use Rattle.laws.proofs.Frames.{frame-used}
 use Rattle.laws.proofs.Good.{Good, good}
 use Rattle.laws.proofs.History.{history}
+use Rattle.laws.proofs.Passed.{counts-most}
 use Rattle.laws.proofs.Rows.{sender-in}
 use Rattle.laws.proofs.Rules.{Kept}
 use Rattle.laws.proofs.Safety.{planning-keeps}
 use Rattle.laws.proofs.Slots.{slot-in}
-use Rattle.laws.proofs.Words.{entries-back, frames-back, printed-words, entry-words-count, frame-words-count}
+use Rattle.laws.proofs.Words.{entries-back, frames-back, printed-words, counts-each, entry-words-count, frame-words-count}
 use Rattle.listing_count.specs.Parts.{entry-text, entries-text, frame-text, frames-text, listing-of}
 use Rattle.listing_count.proofs.DigitCounts.{one-digit}
 use Rattle.listing_count.proofs.Lengths.{frame-length, listing-length}
-use Rattle.listing_count.proofs.Most.{line-most}
+use Rattle.listing_count.proofs.Most.{line-most, passed-most}
 use Rattle.listing_count.proofs.Lines.{listing-same}
-use Rattle.planner_table.proofs.Most.{plans-few, plan-in, delay-most}
+use Rattle.planner_table.proofs.Most.{delay-most}
 
 -- the bounds of an entry of the planner's table
 record Bounded (p : Lines) (e : Entry) : Type 0 where
@@ -82,19 +83,6 @@ module _ (p : Lines) (fine : plan-refusal p ≡ nothing) where
       let o : f .used ≤ 64 = omega (arith, q .1, u .4) in
       omega (arith, frame-length (f .tick) (f .node) (f .used), decimal-length 8 (f .tick) (omega arith), one-digit (f .node) (omega arith), decimal-length 1 (f .used) (omega arith))
 
-  passed-one : (n : ℕ) (s : Planned) → In s (plans p) → length (keep (eqb n) (s .state .passed)) ≤ 198
-  unfolding planned
-  passed-one n s i =
-      let c = plan-in p fine s i in
-      omega (arith, keep-short (eqb n) (s .state .passed), ap (λ (z : State). length (z .passed)) (c .2), passed-few p (c .0) g (c .1) (bound p), g .few-processes, g .few-edges, g .few-conditions)
-
-  passed-most : sum (result p .passed) < 1000000
-  unfolding result passed-by
-  passed-most =
-      let q = sum-most-in (passed-by (plans p)) (below (length (p .slots))) 12672 (λ n i.
-      omega (arith, sum-most-in (λ s. length (keep (eqb n) (s .state .passed))) (plans p) 198 (passed-one n), plans-few p fine)) in
-      omega (arith, length-upfrom 0 (length (p .slots)), g .few-slots)
-
   -- an entry is in one frame at most
   pub frames-few : length (result p .frames) ≤ length (result p .entries)
   unfolding result frames
@@ -104,7 +92,7 @@ module _ (p : Lines) (fine : plan-refusal p ≡ nothing) where
       omega (arith, put-all-most frame-key wider (map (frame-of p) items) [], length-map items (frame-of p), keep-short (λ e. not (is-process p (e .row))) es)
 
   -- the listing of a result of at most 3,000 entries
-  pub listing-most : length (entry-words (result p .entries)) ≤ 15000 → length (plan-listing p) ≤ 426100
+  pub listing-most : length (entry-words (result p .entries)) ≤ 15000 → length (plan-listing p) ≤ LISTING
   unfolding plan-listing
   listing-most h =
       let P : ℕ = length (p .processes) in
@@ -112,19 +100,25 @@ module _ (p : Lines) (fine : plan-refusal p ≡ nothing) where
       let C : ℕ = length (p .conditions) in
       let es : List Entry = result p .entries in
       let fs : List Frame = result p .frames in
-      let whole : length (printed p (made (result p))) ≡ length (listing-of P E C (result p .delay) (sum (result p .passed)) (entry-words es) (frame-words fs)) =
-      ap length (printed-words p (result p) ∙ listing-same p (result p .delay) (sum (result p .passed)) (entry-words es) (frame-words fs)) in
+      let cs : List ℕ = result p .passed in
+      let n : length cs ≡ length (p .slots) = counts-each p in
+      let whole : length (printed p (made (result p))) ≡ length (listing-of P E C (result p .delay) cs (entry-words es) (frame-words fs)) =
+      ap length
+      (printed-words p (result p) n
+      ∙ listing-same p (result p .delay) cs (entry-words es) (frame-words fs)
+      ∙ ap (λ (z : List ℕ). listing-of P E C (result p .delay) z (entry-words es) (frame-words fs)) (take-all (length (p .slots)) cs (omega arith))) in
       let a : length (entries-text P E C (entry-words es)) ≤ 104 * length es =
       omega (arith, ap (λ (xs : List Entry). length (each (entry-text P E C) xs)) (entries-back es), length-each (entry-text P E C) es 104 entry-most) in
       let b : length (frames-text (frame-words fs)) ≤ 38 * length fs =
       omega (arith, ap (λ (xs : List Frame). length (each frame-text xs)) (frames-back fs), length-each frame-text fs 38 frame-most) in
       omega (
         arith,
-        listing-length P E C (result p .delay) (sum (result p .passed)) (entry-words es) (frame-words fs),
+        listing-length P E C (result p .delay) cs (entry-words es) (frame-words fs),
         entry-words-count es,
         frames-few,
         decimal-length 8 (result p .delay) (omega (arith, delay-most p fine)),
-        decimal-length 5 (sum (result p .passed)) passed-most,
+        passed-most 4 0 cs (omega (arith, g .few-slots)) (λ i. omega (arith, counts-most p fine i)),
+        g .few-slots,
       )
 
   -- the words lent for the frame list suffice

@@ -1,6 +1,6 @@
-// The planning program: reads a plan text from standard input and prints its worst delay, its pass-over count, its
-// start table and its frame list, or the number of the refusal. Where a read fails it prints nothing, so that no part
-// of an input is planned; that, and a write that fails, it says on standard error.
+// The planning program: reads a plan text from standard input and prints its worst delay, the pass-over counts of its
+// nodes, its start table and its frame list, or the number of the refusal. Where a read fails it prints nothing, so
+// that no part of an input is planned; that, and a write that fails, it says on standard error.
 // Document 01: "For S the planning program, reading standard input and lending 3,000 entries and 2,000 frames, prints
 // exactly"
 use limits::LISTING;

@@ -10,10 +10,14 @@ pub mod listing_cases;
 pub mod listing_limits;
 pub mod listing_texts;
 pub mod listings;
+pub mod pass_overs;
+pub mod passed_texts;
 pub mod plans;
 pub mod random;
+mod shapes;
 pub mod tables;
 pub mod texts;
+pub mod wrong_counts;
 
 pub use plans::{plan, Kind, KINDS};
 pub use random::Random;

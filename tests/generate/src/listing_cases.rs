@@ -5,7 +5,9 @@ use crate::listing_texts::{changed_anywhere, not_of_the_form};
 use crate::listings::{
     any_listing, damaged, damaged_twice, sound_listings, within_limits, NUMBERS,
 };
+use crate::passed_texts::wrong_passed_lines;
 use crate::random::Random;
+use crate::wrong_counts::wrong_counts;
 use reference::{print_stated, Lines, Planned, Stated};
 
 /// A listing for a plan.
@@ -23,6 +25,8 @@ pub struct Case {
 const SOUND: usize = 10;
 const TWICE: usize = 16;
 const NOT_OF_THE_FORM: usize = 6;
+const WRONG_COUNTS: usize = 4;
+const WRONG_PASSED_LINES: usize = 4;
 
 /// Listings for a plan: sound ones, one or two of the refusals 13 to 22 met, and bytes changed.
 pub fn cases(lines: &Lines, planned: &Planned, random: &mut Random) -> Vec<Case> {
@@ -67,6 +71,7 @@ pub fn cases(lines: &Lines, planned: &Planned, random: &mut Random) -> Vec<Case>
         &any_listing(lines, random),
         None,
     ));
+    all.extend(cases_of_passed_lines(lines, &random.one_of(&sound), random));
     all
 }
 
@@ -81,6 +86,27 @@ fn cases_of_21(lines: &Lines, (base, stated): &(String, Stated), random: &mut Ra
         answer: text.refusal,
     });
     texts.collect()
+}
+
+/// A sound listing with other counts, and with passed lines that are not of the form.
+fn cases_of_passed_lines(lines: &Lines, stated: &Stated, random: &mut Random) -> Vec<Case> {
+    let mut counts = wrong_counts(lines, stated, random);
+    random.shuffle(&mut counts);
+    counts.truncate(WRONG_COUNTS);
+    let mut texts = wrong_passed_lines(lines, stated, random);
+    random.shuffle(&mut texts);
+    texts.truncate(WRONG_PASSED_LINES);
+    let counts = counts.into_iter().map(|(what, passed)| {
+        let entries = stated.clone();
+        let other = Stated { passed, ..entries };
+        case(lines, what.to_string(), &other, Some(22))
+    });
+    let texts = texts.into_iter().map(|text| Case {
+        what: text.what.to_string(),
+        listing: text.text,
+        answer: text.refusal,
+    });
+    counts.chain(texts).collect()
 }
 
 fn case(lines: &Lines, what: String, stated: &Stated, answer: Option<u8>) -> Case {

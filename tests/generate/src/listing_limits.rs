@@ -2,8 +2,10 @@
 //! whose own table is larger than that, with sound listings that are not.
 
 use crate::listings::{of_table, planned_listing, table_of, GREATEST};
+use crate::passed_texts::line;
 use crate::random::Random;
 use crate::tables::{fully_merged, serial};
+use crate::texts::split;
 use reference::read_listing::{MOST_ENTRIES, MOST_FRAMES};
 use reference::table::{row_number, Entry, Frame, Row};
 use reference::{
@@ -29,7 +31,7 @@ pub fn longest(lines: &Lines) -> Stated {
     };
     Stated {
         delay: GREATEST,
-        passed: GREATEST,
+        passed: vec![GREATEST; lines.slots.len()],
         entries: vec![entry; MOST_ENTRIES],
         frames: vec![WIDEST_FRAME; MOST_FRAMES],
     }
@@ -52,14 +54,24 @@ pub fn with_widest_frames(stated: &Stated, count: usize) -> Stated {
     stated
 }
 
-/// A longest listing with a passed line for each of eight nodes, which is not of the form.
-pub fn with_a_count_for_each_node(longest: &[u8]) -> Vec<u8> {
-    let text = String::from_utf8(longest.to_vec()).expect("letters");
-    let lines: String = (0..8)
-        .map(|node| format!("(passed (node {node}) {GREATEST})\n"))
-        .collect();
-    text.replacen(&format!("(passed {GREATEST})\n"), &lines, 1)
-        .into_bytes()
+/// A longest listing with the passed line of document 01 in place of those of the nodes, which is not
+/// of the form.
+pub fn with_the_old_line(longest: &[u8]) -> Vec<u8> {
+    let all = split(longest).into_iter();
+    let old = format!("(passed {GREATEST})\n").into_bytes();
+    let others = all.filter(|line| !line.starts_with(b"(passed "));
+    let mut others: Vec<&[u8]> = others.collect();
+    others.insert(1, &old);
+    others.concat()
+}
+
+/// A longest listing with a passed line for one node more than the plan has.
+fn with_a_further_node(lines: &Lines, longest: &[u8]) -> Vec<u8> {
+    let nodes = lines.slots.len();
+    let further = line(nodes as u64, GREATEST).into_bytes();
+    let mut all = split(longest);
+    all.insert(1 + nodes, &further);
+    all.concat()
 }
 
 /// Texts about the limits, made from a sound listing within them, each with its answer.
@@ -95,8 +107,13 @@ pub fn about_the_limits(
         ("the longest", longest.clone(), 13),
         ("the longest and a byte", [&longest[..], b"("].concat(), 21),
         (
-            "the longest with eight passed lines",
-            with_a_count_for_each_node(&longest),
+            "the longest with the old passed line",
+            with_the_old_line(&longest),
+            21,
+        ),
+        (
+            "the longest with a passed line more",
+            with_a_further_node(lines, &longest),
             21,
         ),
         (
@@ -135,11 +152,11 @@ pub fn about_the_limits(
 }
 
 /// Sound listings of a plan whose own table may be too large for a listing: a serial table and the
-/// planner's, each with as few columns as its ticks allow, and each with the plan's pass-over count.
+/// planner's, each with as few columns as its ticks allow, and each with the plan's pass-over counts.
 pub fn short_listings(lines: &Lines, planned: &Planned, random: &mut Random) -> Vec<Stated> {
     let own = table_of(&planned_listing(planned));
     [serial(lines, random), own]
-        .map(|table| of_table(lines, &fully_merged(&table), planned.passed))
+        .map(|table| of_table(lines, &fully_merged(&table), &planned.passed_by_node))
         .to_vec()
 }
 

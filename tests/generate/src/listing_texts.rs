@@ -1,5 +1,6 @@
 //! Listing texts that are not of the form, and listing texts with some bytes or lines changed.
 
+use crate::passed_texts::wrong_passed_lines;
 use crate::random::Random;
 use crate::texts::{
     before_feed, cut, cut_in_line, damaged, doubled_line, doubled_space, flipped, inserted,
@@ -34,8 +35,9 @@ pub fn not_of_the_form(lines: &Lines, stated: &Stated, random: &mut Random) -> V
         ("a second listing behind", text.repeat(2)),
     ];
     let mut all = texts.map(|(what, text)| wrong(what, text)).to_vec();
-    all.extend(wrong_lines(&text, random));
+    all.extend(wrong_lines(lines, &text, random));
     all.extend(wrong_parts(lines, &text, random));
+    all.extend(wrong_passed_lines(lines, stated, random));
     all
 }
 
@@ -49,10 +51,11 @@ fn behind(text: &[u8], bytes: &[u8]) -> Vec<u8> {
 }
 
 /// Lines that are missing, doubled or out of order.
-fn wrong_lines(text: &[u8], random: &mut Random) -> Vec<Damaged> {
+fn wrong_lines(lines: &Lines, text: &[u8], random: &mut Random) -> Vec<Damaged> {
     let all = split(text);
-    let entries = entry_lines(text);
-    let frames: Vec<usize> = (2 + entries.len()..all.len()).collect();
+    let totals = 1 + lines.slots.len();
+    let entries = entry_lines(text, totals);
+    let frames: Vec<usize> = (totals + entries.len()..all.len()).collect();
     let without = |line: usize| [&all[..line], &all[line + 1..]].concat().concat();
     let doubled = |line: usize| [&all[..line], &[all[line]], &all[line..]].concat().concat();
     let moved = |line: usize, to: usize| {
@@ -63,11 +66,14 @@ fn wrong_lines(text: &[u8], random: &mut Random) -> Vec<Damaged> {
     };
     let mut found = vec![
         wrong("no delay line", without(0)),
-        wrong("no passed line", without(1)),
         wrong("the delay line doubled", doubled(0)),
-        wrong("the passed line doubled", doubled(1)),
         wrong("delay and passed exchanged", moved(0, 1)),
+        wrong("the delay line behind passed", moved(0, totals - 1)),
         wrong("the delay line alone", all[0].to_vec()),
+        wrong(
+            "the delay line and not all of passed",
+            all[..random.between(1, totals as u64 - 1) as usize].concat(),
+        ),
     ];
     if let Some(rows) = rows_exchanged(&all, &entries, random) {
         found.push(wrong("rows out of order", rows));
@@ -77,22 +83,23 @@ fn wrong_lines(text: &[u8], random: &mut Random) -> Vec<Damaged> {
     };
     found.push(wrong(
         "an entry before passed",
-        moved(entry, random.index(2)),
+        moved(entry, random.index(totals)),
     ));
-    let later = random.between(2, all.len() as u64 - 1) as usize;
-    found.push(wrong("passed behind an entry", moved(1, later)));
+    let passed = random.between(1, totals as u64 - 1) as usize;
+    let later = random.between(totals as u64, all.len() as u64 - 1) as usize;
+    found.push(wrong("passed behind an entry", moved(passed, later)));
     if let Some(frame) = random.some_of(&frames) {
-        let before = random.between(2, last as u64) as usize;
+        let before = random.between(totals as u64, last as u64) as usize;
         found.push(wrong("a frame before an entry", moved(frame, before)));
         found.push(wrong("an entry behind a frame", moved(entry, last + 1)));
     }
     found
 }
 
-/// The numbers of the lines of entries: those between the passed line and the frames.
-fn entry_lines(text: &[u8]) -> Vec<usize> {
+/// The numbers of the lines of entries: those between the totals, so many lines, and the frames.
+fn entry_lines(text: &[u8], totals: usize) -> Vec<usize> {
     let all = split(text);
-    (2..all.len())
+    (totals..all.len())
         .filter(|&line| !all[line].starts_with(b"(frame"))
         .collect()
 }
@@ -175,9 +182,6 @@ fn wrong_parts(lines: &Lines, text: &[u8], random: &mut Random) -> Vec<Damaged> 
     add("a frame's tick in brackets", "(frame ", &|line, _| {
         line.replacen("(frame ", "(frame (at ", 1)
             .replacen(" (node", ") (node", 1)
-    });
-    add("a passed line for a node", "(passed ", &|line, _| {
-        line.replace("d ", "d (node 0) ")
     });
     all
 }

@@ -3,6 +3,7 @@
 use crate::any_tables;
 use crate::random::Random;
 use crate::tables::{self, sound_variants, Table};
+use crate::wrong_counts::wrong_counts;
 use reference::bus::round_ticks;
 use reference::check_listing::frames_given;
 use reference::read_listing::{MOST_ENTRIES, MOST_FRAMES};
@@ -19,19 +20,19 @@ pub const GREATEST: u64 = 999_999_999;
 pub fn planned_listing(planned: &Planned) -> Stated {
     Stated {
         delay: planned.delay,
-        passed: planned.passed,
+        passed: planned.passed_by_node.clone(),
         entries: entries(&planned.words),
         frames: frames(&planned.frames),
     }
 }
 
 /// The listing of a table, within a row in the order in which the table has its entries.
-pub fn of_table(lines: &Lines, table: &Table, passed: u64) -> Stated {
+pub fn of_table(lines: &Lines, table: &Table, passed: &[u64]) -> Stated {
     let mut entries = entries(&table.words);
     entries.sort_by_key(|e| e.row);
     Stated {
         delay: table.delay,
-        passed,
+        passed: passed.to_vec(),
         frames: frames_given(lines, &entries),
         entries,
     }
@@ -60,7 +61,7 @@ pub fn sound_listings(lines: &Lines, planned: &Planned, random: &mut Random) -> 
     let own = planned_listing(planned);
     let mut all = vec![shuffled_rows(&own, random)];
     for table in sound_variants(lines, &table_of(&own), random) {
-        let stated = of_table(lines, &table, planned.passed);
+        let stated = of_table(lines, &table, &planned.passed_by_node);
         all.push(shuffled_rows(&stated, random));
         all.push(stated);
     }
@@ -74,6 +75,7 @@ pub fn within_limits(stated: &Stated) -> bool {
     stated.entries.len() <= MOST_ENTRIES
         && stated.frames.len() <= MOST_FRAMES
         && stated.delay <= GREATEST
+        && stated.passed.iter().all(|&count| count <= GREATEST)
         && stated.frames.iter().all(short)
 }
 
@@ -130,7 +132,7 @@ fn with_entries(
     Stated {
         frames: random.one_of(&[given, stated.frames.clone()]),
         entries,
-        ..*stated
+        ..stated.clone()
     }
 }
 
@@ -174,7 +176,7 @@ fn wrong_delay(stated: &Stated, random: &mut Random) -> Stated {
     }
 }
 
-/// Other frame lines, another passed line, or both.
+/// Other frame lines, other passed lines, or both.
 fn wrong_frames_or_passed(lines: &Lines, stated: &Stated, random: &mut Random) -> Option<Stated> {
     let mut damaged = stated.clone();
     let which = random.below(5);
@@ -182,23 +184,23 @@ fn wrong_frames_or_passed(lines: &Lines, stated: &Stated, random: &mut Random) -
         damaged.frames = wrong_frames(lines, stated, random)?;
     }
     if which > 2 {
-        damaged.passed = wrong_passed(stated.passed, random);
+        damaged.passed = other_counts(lines, stated, random);
     }
     Some(damaged)
 }
 
-/// Another pass-over count of at most nine digits.
-fn wrong_passed(right: u64, random: &mut Random) -> u64 {
-    let any = random.below(GREATEST + 1);
-    let less = right.saturating_sub(1);
-    let low_bits = right + high_bit(random);
-    let others = [right + 1, less, 0, 1, GREATEST, low_bits, any];
-    let others: Vec<u64> = others.into_iter().filter(|&p| p != right).collect();
-    random.one_of(&others)
+/// Other pass-over counts, in half of the cases another one of one node only.
+fn other_counts(lines: &Lines, stated: &Stated, random: &mut Random) -> Vec<u64> {
+    let mut all = wrong_counts(lines, stated, random);
+    let place = match random.percent(50) {
+        true => all.len() - 1,
+        false => random.index(all.len()),
+    };
+    all.swap_remove(place).1
 }
 
 /// A bit that a number cut to 8, 16 or 24 bits does not have.
-fn high_bit(random: &mut Random) -> u64 {
+pub(crate) fn high_bit(random: &mut Random) -> u64 {
     1 << random.one_of(&[8, 16, 24])
 }
 
@@ -278,7 +280,11 @@ pub fn any_listing(lines: &Lines, random: &mut Random) -> Stated {
     entries.sort_by_key(|e| e.row);
     Stated {
         delay: any_number(random).into(),
-        passed: any_number(random).into(),
+        passed: lines
+            .slots
+            .iter()
+            .map(|_| any_number(random).into())
+            .collect(),
         entries,
         frames: (0..random.below(21))
             .map(|_| Frame {

@@ -1,6 +1,9 @@
 //! Random plans in which refusals 2 to 9 find nothing.
 
 use crate::random::Random;
+use crate::shapes::{
+    shape, Heads, Shape, ANY_HEAD, LONGEST_HEAD, MANY_CONDITIONS, SHORTEST_LONG_TICKS,
+};
 use reference::{Condition, Edge, Lines, Pick, PlanLine, Process, Slot, Waits, When};
 
 /// The kinds of plans that are generated.
@@ -20,10 +23,13 @@ pub enum Kind {
     LongestRound,
     /// Slots of one byte, often without a head, and processes both short and long.
     ShortestRound,
+    /// Short slots, never in node order, and many messages between all nodes, so that the nodes pass
+    /// different numbers of items over.
+    UnevenBus,
 }
 
 /// All kinds of plans.
-pub const KINDS: [Kind; 7] = [
+pub const KINDS: [Kind; 8] = [
     Kind::Tiny,
     Kind::DenseBus,
     Kind::ManyConditions,
@@ -31,6 +37,7 @@ pub const KINDS: [Kind; 7] = [
     Kind::Largest,
     Kind::LongestRound,
     Kind::ShortestRound,
+    Kind::UnevenBus,
 ];
 
 /// A random plan of a kind.
@@ -39,132 +46,6 @@ pub fn plan(kind: Kind, random: &mut Random) -> Lines {
         Kind::NestedAny => nested(random),
         Kind::ShortestRound if random.percent(50) => shaped(&SHORTEST_LONG_TICKS, random),
         _ => shaped(shape(kind), random),
-    }
-}
-
-/// The ranges that the numbers of a plan are drawn from, both ends included.
-struct Shape {
-    byte: (u64, u64),
-    heads: Heads,
-    slots: (u64, u64),
-    slot_bytes: (u64, u64),
-    processes: (u64, u64),
-    ticks: (u64, u64),
-    conditions: (u64, u64),
-    edges: (u64, u64),
-    any_percent: u64,
-}
-
-/// In how many cases of a hundred a plan has no head, and in how many the longest. In the others
-/// its head is any.
-struct Heads {
-    none_percent: u64,
-    longest_percent: u64,
-}
-
-/// The bytes of the longest head.
-const LONGEST_HEAD: u64 = 16;
-
-const ANY_HEAD: Heads = Heads {
-    none_percent: 25,
-    longest_percent: 15,
-};
-
-const MOSTLY_LONGEST_HEAD: Heads = Heads {
-    none_percent: 5,
-    longest_percent: 75,
-};
-
-const OFTEN_NO_HEAD: Heads = Heads {
-    none_percent: 50,
-    longest_percent: 10,
-};
-
-const TINY: Shape = Shape {
-    byte: (1, 3),
-    heads: ANY_HEAD,
-    slots: (1, 3),
-    slot_bytes: (1, 4),
-    processes: (1, 6),
-    ticks: (1, 9),
-    conditions: (0, 3),
-    edges: (0, 8),
-    any_percent: 40,
-};
-
-const DENSE_BUS: Shape = Shape {
-    byte: (1, 2),
-    heads: ANY_HEAD,
-    slots: (2, 5),
-    slot_bytes: (1, 6),
-    processes: (6, 24),
-    ticks: (1, 5),
-    conditions: (0, 3),
-    edges: (12, 60),
-    any_percent: 40,
-};
-
-const MANY_CONDITIONS: Shape = Shape {
-    byte: (1, 5),
-    heads: ANY_HEAD,
-    slots: (1, 6),
-    slot_bytes: (1, 8),
-    processes: (6, 24),
-    ticks: (1, 30),
-    conditions: (4, 6),
-    edges: (6, 40),
-    any_percent: 60,
-};
-
-const LARGEST: Shape = Shape {
-    byte: (1, 1_000),
-    heads: ANY_HEAD,
-    slots: (8, 8),
-    slot_bytes: (1, 64),
-    processes: (64, 64),
-    ticks: (1, 100_000),
-    conditions: (6, 6),
-    edges: (128, 128),
-    any_percent: 60,
-};
-
-const LONGEST_ROUND: Shape = Shape {
-    byte: (1_000, 1_000),
-    heads: MOSTLY_LONGEST_HEAD,
-    slots: (8, 8),
-    slot_bytes: (64, 64),
-    processes: (2, 20),
-    ticks: (1, 100_000),
-    conditions: (0, 4),
-    edges: (1, 30),
-    any_percent: 50,
-};
-
-const SHORTEST_ROUND: Shape = Shape {
-    byte: (1, 1),
-    heads: OFTEN_NO_HEAD,
-    slots: (1, 3),
-    slot_bytes: (1, 1),
-    processes: (1, 16),
-    ticks: (1, 3),
-    conditions: (0, 4),
-    edges: (0, 24),
-    any_percent: 50,
-};
-
-const SHORTEST_LONG_TICKS: Shape = Shape {
-    ticks: (1, 100_000),
-    ..SHORTEST_ROUND
-};
-
-fn shape(kind: Kind) -> &'static Shape {
-    match kind {
-        Kind::Tiny | Kind::NestedAny => &TINY,
-        Kind::DenseBus => &DENSE_BUS,
-        Kind::ManyConditions => &MANY_CONDITIONS,
-        Kind::Largest => &LARGEST,
-        Kind::LongestRound => &LONGEST_ROUND,
-        Kind::ShortestRound => &SHORTEST_ROUND,
     }
 }
 
@@ -216,10 +97,13 @@ pub fn random_pick(random: &mut Random) -> Pick {
     random.one_of(&[Pick::Urgency, Pick::Number])
 }
 
-/// Slots of all nodes in a random bus order.
+/// Slots of all nodes in a random bus order, or in one that is not that of the nodes.
 fn random_slots(shape: &Shape, random: &mut Random) -> Vec<Slot> {
     let mut nodes: Vec<u64> = (0..random.within(shape.slots)).collect();
     random.shuffle(&mut nodes);
+    if shape.turned && nodes.is_sorted() {
+        nodes.rotate_left(1);
+    }
     let slot = |node| Slot {
         node,
         bytes: random.within(shape.slot_bytes),

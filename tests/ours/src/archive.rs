@@ -85,7 +85,8 @@ pub fn copy_plan(text: &[u8], out: &mut [u8]) -> u64 {
     unsafe { linked::riscadru_copy_plan(text.as_ptr(), text.len(), out.as_mut_ptr(), out.len()) }
 }
 
-/// Plans a plan text: start table, frame list and totals to the front of the lent bytes.
+/// Plans a plan text: start table, frame list and totals, the last of them a pass-over count for each
+/// node, to the front of the lent bytes.
 pub fn plan_table(text: &[u8], table: &mut [u8], frames: &mut [u8], totals: &mut [u8]) -> u64 {
     // SAFETY: each pointer and length are those of one slice, and the four slices do not overlap.
     unsafe {

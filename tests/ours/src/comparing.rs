@@ -5,6 +5,7 @@ use std::ops::Range;
 
 use generate::{Kind, Random};
 use reference::lookup::Question;
+use reference::Planned;
 
 use crate::archive;
 
@@ -20,7 +21,7 @@ pub fn plans() -> u64 {
 }
 
 /// Of a thousand of the plans that the tests go by, how many a test takes of each kind.
-pub type Shares = [(Kind, u64); 7];
+pub type Shares = [(Kind, u64); 8];
 
 /// How many random plans of a kind a test with these shares takes, at least one.
 pub fn count(shares: &Shares, kind: Kind) -> u64 {
@@ -42,6 +43,16 @@ pub fn as_asked(question: archive::Question) -> Question {
 /// Words as bytes, the lowest first.
 pub fn bytes(words: &[u32]) -> Vec<u8> {
     words.iter().flat_map(|word| word.to_le_bytes()).collect()
+}
+
+/// The totals that the archive's planner writes: the words of the table, those of the frame list, the
+/// worst delay, and the pass-over count of each node, node 0 first.
+pub fn totals(planned: &Planned) -> Vec<u32> {
+    let sizes = [planned.words.len() as u64, planned.frames.len() as u64];
+    let all = sizes.iter().chain([&planned.delay]);
+    all.chain(&planned.passed_by_node)
+        .map(|&total| u32::try_from(total).unwrap())
+        .collect()
 }
 
 /// Random bytes, so many.

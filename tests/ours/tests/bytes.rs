@@ -13,17 +13,18 @@ use ours::archive::{
     check_listing, check_table, copy_plan, lookup, plan_listing, plan_table, refused, row_query,
     Question, ACCEPTED,
 };
-use ours::comparing::{as_asked, bytes, plans, random_bytes, Lent};
+use ours::comparing::{as_asked, bytes, plans, random_bytes, totals, Lent};
 use reference::lookup::{c_lookup, little_endian_words};
 use reference::{check, list_plan, listing, print, read};
 use suite::{cases, planned, s};
 
 /// The kinds of plans whose texts and tables are mutated: those that are planned quickly.
-const SMALL: [Kind; 4] = [
+const SMALL: [Kind; 5] = [
     Kind::Tiny,
     Kind::NestedAny,
     Kind::ShortestRound,
     Kind::DenseBus,
+    Kind::UnevenBus,
 ];
 
 /// The inputs that a run under valgrind goes by: few, as each takes a hundred times as long.
@@ -100,7 +101,7 @@ fn original(random: &mut Random) -> Original {
         Ok(planned) => (lines, planned),
         Err(_) => (s(), planned(&s())),
     };
-    let (delay, passed) = (planned.delay, planned.passed);
+    let (delay, passed) = (planned.delay, &planned.passed_by_node);
     Original {
         text,
         table: bytes(&planned.words),
@@ -143,7 +144,7 @@ fn written(answer: u64) -> u64 {
 /// The functions that write: a refusal writes nothing, an answer only as many bytes as it says.
 fn write_with(text: &mut Lent, wanted: Option<u8>, random: &mut Random) {
     let [length, table, frames] = [4_000, 4_000, 1_000].map(|most| random.below(most) as usize);
-    let totals = random.below(21) as usize;
+    let totals = random.below(49) as usize;
 
     let mut out = lend_room(length, random);
     let before = out.clone();
@@ -170,21 +171,22 @@ fn write_with(text: &mut Lent, wanted: Option<u8>, random: &mut Random) {
     assert!(wanted.is_none_or(|number| answer == refused(number)));
     let fronts = match written(answer) {
         0 => [0; 3],
-        table => [
-            table,
-            frames_written(text.lent()),
-            16.min(totals.lent().len() as u64),
-        ],
+        table => {
+            let (frames, all_totals) = frames_and_totals(text.lent());
+            [table, frames, all_totals.min(totals.lent().len() as u64)]
+        }
     };
     for ((lent, before), front) in lent.iter().zip(&before).zip(fronts) {
         only_the_front(lent, before, front, "table, frames or totals");
     }
 }
 
-/// How many bytes the frame list of a text takes, by the reference.
-fn frames_written(text: &[u8]) -> u64 {
+/// How many bytes the frame list and the totals of a text take, by the reference.
+fn frames_and_totals(text: &[u8]) -> (u64, u64) {
     let lines = read(text).expect("a plan that the archive planned");
-    4 * planned(&lines).frames.len() as u64
+    let planned = planned(&lines);
+    let words = [planned.frames.len(), totals(&planned).len()];
+    (4 * words[0] as u64, 4 * words[1] as u64)
 }
 
 /// The functions that only read.

@@ -115,7 +115,7 @@ fn names_of_files() {
         tree.run(&["check", "--", name, &listing]).done(ACCEPTED);
         tree.write(&listing, &early());
         let ended = tree.run(&["check", "--", name, &listing]);
-        let says = format!("listing ('{listing}'), line 7:{EARLY}");
+        let says = format!("listing ('{listing}'), line 8:{EARLY}");
         assert_eq!(refused(&ended, 16), says);
         tree.write(name, &whole());
         tree.run(&["check", "--", name]).done(ACCEPTED);
@@ -158,14 +158,14 @@ fn which_of_the_two_is_told() {
     let tree = Tree::new("check which");
     let text = format!("{S}\n{}", early());
     let ended = tree.fed(tree.call(&["check"]), text.as_bytes());
-    let says = format!("listing line 7 (line 20 of the whole text):{EARLY}");
+    let says = format!("listing line 8 (line 21 of the whole text):{EARLY}");
     assert_eq!(refused(&ended, 16), says);
     tree.write("early", &early());
     let ended = tree.run(&["check", "examples/s.plan", "early"]);
-    let says = format!("listing ('early'), line 7:{EARLY}");
+    let says = format!("listing ('early'), line 8:{EARLY}");
     assert_eq!(refused(&ended, 16), says);
     let there = tree.call(&["check", "examples/s.plan", "-"]);
-    let says = format!("listing (standard input), line 7:{EARLY}");
+    let says = format!("listing (standard input), line 8:{EARLY}");
     assert_eq!(refused(&tree.fed(there, early().as_bytes()), 16), says);
 
     let longer = S.replace("(bytes 2) (when", "(bytes 3) (when");
@@ -299,16 +299,17 @@ fn texts_that_are_too_long() {
     is_351(refused(&ended, 1), "plan line 351: (edge ");
 
     let start = "(start 0 (when) (at 0))\n";
-    let long_listing = format!("(delay 34)\n(passed 0)\n{}", start.repeat(40_000));
+    let totals = "(delay 34)\n(passed (node 0) 0)\n(passed (node 1) 0)\n";
+    let long_listing = format!("{totals}{}", start.repeat(40_000));
     let behind = " (start 0 (when) (at 0))
   a listing has at most 3000 entries: start, send and tell lines
 ";
     tree.write("listing", &long_listing);
     let ended = tree.run(&["check", "examples/s.plan", "listing"]);
-    let says = format!("listing ('listing'), line 3003:{behind}");
+    let says = format!("listing ('listing'), line 3004:{behind}");
     assert_eq!(refused(&ended, 21), says);
     let text = format!("{S}\n{long_listing}");
-    let says = format!("listing line 3003 (line 3016 of the whole text):{behind}");
+    let says = format!("listing line 3004 (line 3017 of the whole text):{behind}");
     let ended = tree.fed(tree.call(&["check"]), text.as_bytes());
     assert_eq!(refused(&ended, 21), says);
     tree.write("whole", &text);
@@ -319,9 +320,10 @@ fn texts_that_are_too_long() {
 #[test]
 fn the_longest_listing() {
     let tree = Tree::new("check longest");
-    let mut lines = bus(1, &[(0, 1), (1, 1)]);
+    let slots: Vec<(u64, u64)> = (0..8).map(|node| (node, 1)).collect();
+    let mut lines = bus(1, &slots);
     for process in 0..64 {
-        lines = lines.all(process % 2, 1);
+        lines = lines.all(process % 8, 1);
     }
     for condition in 0..6 {
         lines = lines.decides(condition);
@@ -334,12 +336,15 @@ fn the_longest_listing() {
     let most = 999_999_999;
     let entry = format!("(send 127 (when{when}) (at {most}) (place {most}))\n");
     let frame = format!("(frame {most} (node {most}) (bytes {most}))\n");
+    let passed: String = (0..8)
+        .map(|node| format!("(passed (node {node}) {most})\n"))
+        .collect();
     let listing = format!(
-        "(delay {most})\n(passed {most})\n{}{}",
+        "(delay {most})\n{passed}{}{}",
         entry.repeat(3_000),
         frame.repeat(2_000)
     );
-    assert_eq!(listing.len(), 439_037);
+    assert_eq!(listing.len(), 439_242);
     std::fs::write(tree.root.join("plan"), &plan).expect("a file");
     for (listing, number) in [(listing.clone(), 13), (listing + &frame, 21)] {
         let ended = tree.fed(tree.call(&["check", "plan", "-"]), listing.as_bytes());

@@ -11,6 +11,7 @@ use generate::inputs::{inputs, joined, long_inputs};
 use generate::listing_cases::cases;
 use generate::listing_limits::{about_the_limits, many_columns, short_listings};
 use generate::listings::{planned_listing, within_limits};
+use generate::texts::of_length;
 use generate::{plan, Kind, Random, KINDS};
 use ours::program::{fails_after, printed, said, Program};
 use reference::{check_input, check_program, print, print_stated, Pick, PlanLine};
@@ -157,9 +158,30 @@ fn a_short_listing_of_a_plan_with_too_many_entries() {
         assert_eq!(stated.entries.len(), 128);
         let input = joined(&print(&lines), &print_stated(&lines, &stated));
         prints(&input, b"(accepted)\n", "sound");
-        stated.passed += 1;
+        stated.passed[1] += 1;
         let input = joined(&print(&lines), &print_stated(&lines, &stated));
         prints(&input, b"(refused 22)\n", "another count");
+    }
+}
+
+/// The program reads an input as far as it takes to answer: a plan of 16,384 bytes, an empty line, the
+/// longest listing of the form, and a byte more. What stands behind makes no difference.
+#[test]
+fn inputs_about_the_length_that_is_read() {
+    let most_read = 16_384 + 1 + 439_242 + 1;
+    assert_eq!(most_read, 455_628);
+    let (whole, longer) = (of_length(&s(), 16_384), of_length(&s(), 16_385));
+    for length in most_read - 2..=most_read + 3 {
+        for byte in *b"(0\n" {
+            let behind = |text: &[u8]| {
+                let mut input = joined(text, b"");
+                input.resize(length, byte);
+                input
+            };
+            prints(&behind(S.as_bytes()), b"(refused 21)\n", "behind S");
+            prints(&behind(&whole), b"(refused 2)\n", "behind 16,384 bytes");
+            prints(&behind(&longer), b"(refused 1)\n", "behind 16,385 bytes");
+        }
     }
 }
 

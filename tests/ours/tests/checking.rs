@@ -28,6 +28,7 @@ const SHARES: Shares = [
     (Kind::Largest, 1),
     (Kind::LongestRound, 5),
     (Kind::ShortestRound, 5),
+    (Kind::UnevenBus, 3),
 ];
 
 /// The most entries of which each can be met in a combination of its own, once for each row: 64

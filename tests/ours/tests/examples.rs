@@ -10,7 +10,7 @@ use std::process::{Command, Stdio};
 use std::sync::OnceLock;
 
 use ours::archive::{check_table, plan_listing, plan_table, refused, ACCEPTED};
-use ours::comparing::bytes;
+use ours::comparing::{bytes, totals};
 use ours::firmware::{build, letters};
 use ours::linking::root;
 use ours::tree::Tree;
@@ -118,6 +118,9 @@ impl Example {
             }
         }
         assert_eq!(worst.len(), 1 << free, "{}: {worst:?}", self.name);
+        if values.is_empty() {
+            return "always".to_string();
+        }
         format!("`{}`", values.join(" "))
     }
 
@@ -139,8 +142,8 @@ impl Example {
         let mut row = vec![link];
         row.extend(sizes.map(|size| size.to_string()));
         row.extend([planned.delay.to_string(), self.worst_where()]);
+        row.push(numbers(&planned.passed_by_node).join(", "));
         row.extend(numbers(&[
-            planned.passed,
             (planned.words.len() / ENTRY_WORDS) as u64,
             (planned.frames.len() / FRAME_WORDS) as u64,
         ]));
@@ -211,13 +214,7 @@ fn each_is_planned() {
         assert_eq!(length, listing.len() as u64, "{}", example.name);
         assert!(out == listing, "{}", example.name);
         let planned = &example.planned;
-        let totals = [
-            planned.words.len() as u32,
-            planned.frames.len() as u32,
-            planned.delay as u32,
-            planned.passed as u32,
-        ];
-        let wanted = [&planned.words[..], &planned.frames, &totals].map(bytes);
+        let wanted = [&planned.words[..], &planned.frames, &totals(planned)].map(bytes);
         let [mut table, mut frames, mut sums] = wanted.clone().map(|bytes| vec![0; bytes.len()]);
         let answer = plan_table(&example.text, &mut table, &mut frames, &mut sums);
         assert_eq!(answer, table.len() as u64, "{}", example.name);
@@ -505,6 +502,27 @@ fn the_page_says_what_each_combination_takes() {
         format!(
             "goes at 164, and everything ends at {}.",
             largest.planned.delays[0]
+        ),
+    ]);
+}
+
+/// Slots as long as their nodes need them let nothing wait, and the delay falls.
+#[test]
+fn the_page_says_what_longer_slots_do() {
+    let short = example("short");
+    let mut lines = short.lines.clone();
+    lines.slots[0].bytes = 2;
+    lines.slots[1].bytes = 3;
+    let longer = planned(&lines);
+    assert_eq!(longer.passed_by_node, [0, 0]);
+    page_says(&[
+        format!(
+            "Unit 0 has {} such slots and unit 1 {},",
+            short.planned.passed_by_node[0], short.planned.passed_by_node[1]
+        ),
+        format!(
+            "nothing waits, and the delay is {} in place of {}",
+            longer.delay, short.planned.delay
         ),
     ]);
 }

@@ -19,6 +19,7 @@ use reference::table::{entries, row_number, words};
 use reference::who_runs::combinations;
 use reference::{print, run, Lines};
 use suite::cases::{packing, s_with_a_long_message};
+use suite::passed_lines::three_slots_turned;
 use suite::{full_times, planned, random_times, s, With, S};
 
 /// Of a thousand of the plans that the tests go by, how many are run.
@@ -30,6 +31,7 @@ const SHARES: Shares = [
     (Kind::Largest, 0),
     (Kind::LongestRound, 1),
     (Kind::ShortestRound, 1),
+    (Kind::UnevenBus, 1),
 ];
 
 /// A place for a file of this test.
@@ -363,6 +365,17 @@ fn planning_and_checking() {
             (String::new(), "unit: refused 9\n".into(), Some(1))
         );
     }
+}
+
+#[test]
+fn planning_tells_whose_slots_are_too_short() {
+    let files = Files::new("too-short");
+    files.write(&print(&three_slots_turned()), b"");
+    let (delay, errors, status) = said(files.call("plan", &[]));
+    let wanted =
+        "unit: the slot of node 2 is too short: over all combinations 3 of them left a ready item \
+                  waiting\n";
+    assert_eq!((&*delay, &*errors, status), ("11\n", wanted, Some(0)));
 }
 
 #[test]

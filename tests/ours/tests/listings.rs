@@ -11,12 +11,13 @@ use generate::listing_limits::{about_the_limits, many_columns, short_listings};
 use generate::listings::{planned_listing, within_limits};
 use generate::plans::random_pick;
 use generate::texts::{damaged_texts, of_length};
+use generate::wrong_counts::wrong_counts;
 use generate::{plan, Kind, Random, KINDS};
 use ours::archive::{check_listing, check_table, plan_listing, refused, ACCEPTED};
 use ours::comparing::{bytes, count, plans, random_bytes, Shares};
 use reference::check_listing::check_listing_of;
 use reference::table::words;
-use reference::{print, print_stated, read_listing, Lines, PlanLine, Planned};
+use reference::{print, print_stated, read_listing, Lines, PlanLine, Planned, Stated};
 use suite::listing_readings::readings;
 use suite::listings::behind_s;
 use suite::tally::Tally;
@@ -31,6 +32,7 @@ const SHARES: Shares = [
     (Kind::Largest, 1),
     (Kind::LongestRound, 3),
     (Kind::ShortestRound, 3),
+    (Kind::UnevenBus, 4),
 ];
 
 /// More bytes than a listing of 3,000 entries that the planner prints has.
@@ -74,7 +76,7 @@ impl<'a> Checked<'a> {
 
     /// Checks a listing by both, with the answer that it is made for, if it is made for one.
     fn same(&self, listing: &[u8], made_for: Option<u8>, what: &str, tally: &mut Tally) {
-        let wanted = check_listing_of(self.lines, listing, || self.planned.passed);
+        let wanted = check_listing_of(self.lines, listing, || self.planned.passed_by_node.clone());
         if let Some(made_for) = made_for {
             assert_eq!(wanted.unwrap_or(0), made_for, "the reference: {what}");
         }
@@ -167,7 +169,7 @@ fn listings_behind_s() {
 
 /// Listings of other plans with answers that were worked out by hand.
 #[test]
-fn readings_of_point_2() {
+fn readings_of_points_2_and_3() {
     for (what, lines, listing, answer) in readings() {
         let wanted = (answer != 0).then_some(answer);
         answers(&print(&lines), listing.as_bytes(), wanted, what);
@@ -205,12 +207,20 @@ fn every_byte_of_the_listing_of_s() {
 fn plans_that_are_refused() {
     let mut tally = Tally::default();
     for_plans(83, &FEW, |lines, random| {
-        let own = print_stated(lines, &planned_listing(&planned(lines)));
+        let stated = planned_listing(&planned(lines));
+        let own = print_stated(lines, &stated);
+        let totals_alone = Stated {
+            delay: 0,
+            entries: Vec::new(),
+            frames: Vec::new(),
+            ..stated
+        };
         let listings = [
             &own[..],
             b"",
             b"x",
             b"(delay 0)\n(passed 0)\n",
+            &print_stated(lines, &totals_alone),
             &print(lines),
         ];
         let mut texts: Vec<Vec<u8>> = damaged_texts(lines, random)
@@ -273,8 +283,8 @@ fn listings_about_the_limits() {
     tally.assert_each([0, 13, 14, 21, 22], 15);
 }
 
-/// Sound listings of plans whose own table is too large, so that the planner answers 10: the passed line
-/// is the plan's count all the same.
+/// Sound listings of plans whose own table is too large, so that the planner answers 10: the passed lines
+/// have the plan's counts all the same.
 #[test]
 fn short_listings_of_plans_with_too_many_entries() {
     let mut tally = Tally::default();
@@ -295,10 +305,12 @@ fn short_listings_of_plans_with_too_many_entries() {
             let fits = within_limits(&stated);
             let answer = if fits { 0 } else { 21 };
             checked.same(&listing, Some(answer), "sound", &mut tally);
-            stated.passed += random.between(1, 100);
-            let listing = print_stated(&lines, &stated);
-            let answer = if fits { 22 } else { 21 };
-            checked.same(&listing, Some(answer), "another count", &mut tally);
+            for (what, counts) in wrong_counts(&lines, &stated, &mut random) {
+                stated.passed = counts;
+                let listing = print_stated(&lines, &stated);
+                let answer = if fits { 22 } else { 21 };
+                checked.same(&listing, Some(answer), what, &mut tally);
+            }
         }
     }
     tally.assert_each([0, 22], 15);

@@ -28,6 +28,7 @@ const SHARES: Shares = [
     (Kind::Largest, 1),
     (Kind::LongestRound, 5),
     (Kind::ShortestRound, 5),
+    (Kind::UnevenBus, 3),
 ];
 
 /// How many questions are asked of each table.

@@ -10,7 +10,7 @@ use generate::plans::{plan, Kind};
 use generate::random::Random;
 use generate::texts::{damaged_texts, of_length};
 use ours::archive::{plan_listing, plan_table, refused};
-use ours::comparing::{bytes, count, random_bytes, Lent, Shares};
+use ours::comparing::{bytes, count, random_bytes, totals, Lent, Shares};
 use reference::listing::{refuse_listing, PROGRAM_FRAME_WORDS, PROGRAM_WORDS};
 use reference::{list_plan, listing, print, read, Lines, Planned};
 use suite::heads::{s_with_head, s_with_plan_line, PACKING_LISTINGS, S_LISTINGS, WRONG_PLAN_LINES};
@@ -18,20 +18,21 @@ use suite::{about_the_room, cases, for_plans, planned, With, FEW, S, S_LISTING};
 
 /// Of a thousand random plans, how many are of each kind. They add up to a thousand.
 const SHARES: Shares = [
-    (Kind::Tiny, 400),
+    (Kind::Tiny, 340),
     (Kind::DenseBus, 190),
     (Kind::ManyConditions, 110),
     (Kind::NestedAny, 115),
     (Kind::Largest, 5),
     (Kind::LongestRound, 90),
     (Kind::ShortestRound, 90),
+    (Kind::UnevenBus, 60),
 ];
 
 /// The bytes of a word.
 const WORD: usize = 4;
 
-/// The most bytes that are lent for the totals: one word more than there are.
-const MOST_TOTALS: usize = 5 * WORD;
+/// The most bytes that are lent for the totals: one word more than there are with 8 slots.
+const MOST_TOTALS: usize = (3 + 8 + 1) * WORD;
 
 /// The bytes that the planning program lends for the table and for the frames.
 const PROGRAM_ROOM: (usize, usize) = (PROGRAM_WORDS * WORD, PROGRAM_FRAME_WORDS * WORD);
@@ -61,15 +62,10 @@ fn wanted(text: &[u8]) -> Wanted<'_> {
     let made = read(text).and_then(|lines| {
         let p = reference::plan(&lines, usize::MAX, usize::MAX)?;
         Ok(Made {
-            totals: bytes(&[
-                p.words.len() as u32,
-                p.frames.len() as u32,
-                u32::try_from(p.delay).unwrap(),
-                u32::try_from(p.passed).unwrap(),
-            ]),
+            totals: bytes(&totals(&p)),
             table: bytes(&p.words),
             frames: bytes(&p.frames),
-            listing: listing(&lines, p.delay, p.passed, &p.words, &p.frames),
+            listing: listing(&lines, p.delay, &p.passed_by_node, &p.words, &p.frames),
             planned: p,
         })
     });
@@ -225,6 +221,11 @@ fn plans_with_the_shortest_round() {
 }
 
 #[test]
+fn plans_with_an_uneven_bus() {
+    same_plans(Kind::UnevenBus);
+}
+
+#[test]
 fn plans_with_nested_branches() {
     same_plans(Kind::NestedAny);
 }
@@ -255,7 +256,7 @@ fn every_case_with_totals_of_every_length() {
         let wanted = wanted(&text);
         wanted.same(&mut random);
         for (table, frames) in wanted.lengths(&mut random) {
-            for totals in 0..=MOST_TOTALS {
+            for totals in 0..=(3 + lines.slots.len() + 1) * WORD {
                 wanted.same_table((table, frames, totals), &mut random);
             }
         }

@@ -42,12 +42,12 @@ pub fn check_listing(text: &[u8], listing: &[u8]) -> Option<u8> {
     }
 }
 
-/// Checks a listing for a plan in which 2 to 9 find nothing and whose pass-over count this gives.
+/// Checks a listing for a plan in which 2 to 9 find nothing and whose pass-over counts this gives.
 /// Document 02: 21 is "tried after 9", 22 "tried after 20."
 pub fn check_listing_of(
     lines: &Lines,
     listing: &[u8],
-    pass_overs: impl FnOnce() -> u64,
+    pass_overs: impl FnOnce() -> Vec<u64>,
 ) -> Option<u8> {
     let stated = match read_listing(lines, listing) {
         Err(number) => return Some(number),
@@ -80,8 +80,9 @@ pub fn frames_given(lines: &Lines, entries: &[Entry]) -> Vec<Frame> {
     frame_list(used.collect())
 }
 
-/// Document 02: "or its passed line is not the plan's pass-over count": that of the planning rules,
-/// whatever table is checked, and also where the planner's table needs more words than lent.
-pub fn pass_overs(lines: &Lines) -> u64 {
-    plan_all(lines, Ticks::Eventful).passed
+/// Document 02: "or its passed line is not the plan's pass-over count", which point 3 makes a line and
+/// a count for each node: those of the planning rules, whatever table is checked, and also where the
+/// planner's table needs more words than lent.
+pub fn pass_overs(lines: &Lines) -> Vec<u64> {
+    plan_all(lines, Ticks::Eventful).passed_by_node
 }

@@ -8,8 +8,8 @@ use crate::read_listing::{read_listing, Stated};
 use crate::table::{row, row_bytes, row_node, row_process, Entry, Frame, Row};
 use crate::who_runs::{combinations, who_runs, Combination};
 
-/// The lines of a listing that stand above its entries.
-const TOTALS: usize = 2;
+/// The number of the passed line of node 0.
+const FIRST_PASSED: usize = 2;
 
 /// Where a listing fails.
 #[derive(Clone, Debug, PartialEq, Eq)]
@@ -47,10 +47,14 @@ impl FailingListing {
     }
 }
 
-/// Where a listing fails for a plan in which 2 to 9 find nothing and whose pass-over count this
-/// is, if one of 13 to 22 applies to it.
-pub fn failing_listing(lines: &Lines, listing: &[u8], pass_overs: u64) -> Option<FailingListing> {
-    let number = check_listing_of(lines, listing, || pass_overs)?;
+/// Where a listing fails for a plan in which 2 to 9 find nothing and whose pass-over counts these
+/// are, if one of 13 to 22 applies to it.
+pub fn failing_listing(
+    lines: &Lines,
+    listing: &[u8],
+    pass_overs: &[u64],
+) -> Option<FailingListing> {
+    let number = check_listing_of(lines, listing, || pass_overs.to_vec())?;
     let Ok(stated) = read_listing(lines, listing) else {
         return Some(FailingListing::at(21, first_odd_line(lines, listing)));
     };
@@ -72,21 +76,31 @@ fn first_odd_line(lines: &Lines, listing: &[u8]) -> usize {
     let ends = (1..=listing.len()).filter(|&p| listing[p - 1] == b'\n');
     let ends: Vec<usize> = ends.collect();
     let begins_a_listing = |&end: &usize| {
-        let more: &[u8] = if end == ends[0] { b"(passed 0)\n" } else { b"" };
-        read_listing(lines, &[&listing[..end], more].concat()).is_ok()
+        let above = ends.partition_point(|&other| other <= end);
+        let more = missing_passed(lines, above);
+        read_listing(lines, &[&listing[..end], &more].concat()).is_ok()
     };
     ends.partition_point(begins_a_listing) + 1
 }
 
-/// The line of an entry, by its place among the entries.
-fn line_of(entry: usize) -> usize {
-    TOTALS + entry + 1
+/// The passed lines that a listing of the form has behind so many lines, one or more.
+pub fn missing_passed(lines: &Lines, above: usize) -> Vec<u8> {
+    (above - 1..lines.slots.len())
+        .flat_map(|node| format!("(passed (node {node}) 0)\n").into_bytes())
+        .collect()
+}
+
+/// The line of an entry, by its place among the entries: the delay line and a passed line for each
+/// node stand above them.
+pub fn line_of(lines: &Lines, entry: usize) -> usize {
+    1 + lines.slots.len() + entry + 1
 }
 
 /// "13. An entry [...]": the first that is refused also alone.
 fn first_wrong_entry(lines: &Lines, stated: &Stated) -> usize {
     let is_wrong = |entry: &Entry| check(lines, &entry.words(), 0) == Some(13);
-    line_of(stated.entries.iter().position(is_wrong).unwrap())
+    let place = stated.entries.iter().position(is_wrong).unwrap();
+    line_of(lines, place)
 }
 
 /// The places of the entries of a row whose columns are met in a combination.
@@ -110,8 +124,8 @@ fn wrong_row(lines: &Lines, stated: &Stated) -> FailingListing {
     let (combination, row, met, is_due) = combinations(lines).find_map(wrong).unwrap();
     let too_many = usize::from(is_due);
     FailingListing {
-        line: met.get(too_many).map(|&e| line_of(e)),
-        earlier: met.first().filter(|_| is_due).map(|&e| line_of(e)),
+        line: met.get(too_many).map(|&e| line_of(lines, e)),
+        earlier: met.first().filter(|_| is_due).map(|&e| line_of(lines, e)),
         combination: Some(combination),
         row: Some(row),
         ..FailingListing::at(14, 0)
@@ -256,9 +270,9 @@ fn in_courses(lines: &Lines, stated: &Stated, number: u8) -> FailingListing {
     };
     let (combination, (entry, earlier)) = combinations(lines).find_map(fails).unwrap();
     FailingListing {
-        earlier: earlier.map(line_of),
+        earlier: earlier.map(|e| line_of(lines, e)),
         combination: Some(combination),
-        ..FailingListing::at(number, line_of(entry))
+        ..FailingListing::at(number, line_of(lines, entry))
     }
 }
 
@@ -270,16 +284,17 @@ fn greatest_delay(lines: &Lines, stated: &Stated) -> Option<u64> {
 }
 
 /// Document 02: "22: its frame lines are not those its entries give, or its passed line is not the
-/// plan's pass-over count". The first frame line that is another, or missing, or one too many; the
-/// passed line where there is none.
+/// plan's pass-over count". The first frame line that is another, or missing, or one too many. Where
+/// there is none, the first passed line, whichever of them is at fault: which one is known only to
+/// who plans.
 fn wrong_frame(lines: &Lines, stated: &Stated) -> FailingListing {
     let given = frames_given(lines, &stated.entries);
     let most = given.len().max(stated.frames.len());
     match (0..most).find(|&f| given.get(f) != stated.frames.get(f)) {
-        None => FailingListing::at(22, TOTALS),
+        None => FailingListing::at(22, FIRST_PASSED),
         Some(place) => FailingListing {
             frame: given.get(place).copied(),
-            ..FailingListing::at(22, line_of(stated.entries.len() + place))
+            ..FailingListing::at(22, line_of(lines, stated.entries.len() + place))
         },
     }
 }

@@ -1,4 +1,4 @@
-//! Document 01 with points 1 and 2 of document 02 in plain Rust, sentence by sentence.
+//! Document 01 with points 1 to 3 of document 02 in plain Rust, sentence by sentence.
 //!
 //! Every function stands under the sentence of document 01 that it says again, or of document 02,
 //! which is then named. Nothing here is made to be fast: the crate is the measure that other
@@ -7,6 +7,7 @@
 pub mod bus;
 pub mod check;
 pub mod check_listing;
+pub mod course;
 pub mod failing;
 pub mod failing_listing;
 pub mod lines;

@@ -19,7 +19,7 @@ pub fn program(input: &[u8]) -> Vec<u8> {
     });
     match planned {
         Err(number) => refused(number),
-        Ok((lines, p)) => listing(&lines, p.delay, p.passed, &p.words, &p.frames),
+        Ok((lines, p)) => listing(&lines, p.delay, &p.passed_by_node, &p.words, &p.frames),
     }
 }
 
@@ -28,16 +28,20 @@ pub fn refused(number: u8) -> Vec<u8> {
     format!("(refused {number})\n").into_bytes()
 }
 
-/// The listing: delay, pass-over count, entries in the order of the table, frames in the order of
-/// the frame list.
+/// The listing: delay, the pass-over count of each node, entries in the order of the table, frames in
+/// the order of the frame list. Document 02: "the listing's passed line becomes one line for each
+/// node, `(passed (node 0) 0)`, in node order."
 pub fn listing(
     lines: &Lines,
     delay: u64,
-    passed: u64,
+    passed: &[u64],
     words: &[u32],
     frame_words: &[u32],
 ) -> Vec<u8> {
-    let mut text = format!("(delay {delay})\n(passed {passed})\n");
+    let mut text = format!("(delay {delay})\n");
+    for (node, count) in passed.iter().enumerate() {
+        text += &format!("(passed (node {node}) {count})\n");
+    }
     for entry in entries(words) {
         text += &print_entry(lines, &entry);
     }
@@ -53,7 +57,7 @@ pub fn listing(
 pub fn list_plan(text: &[u8], bytes_lent: usize) -> Result<Vec<u8>, u8> {
     let lines = read(text)?;
     let p = plan(&lines, usize::MAX, usize::MAX)?;
-    let listing = listing(&lines, p.delay, p.passed, &p.words, &p.frames);
+    let listing = listing(&lines, p.delay, &p.passed_by_node, &p.words, &p.frames);
     match refuse_listing(&p, listing.len(), bytes_lent) {
         Some(number) => Err(number),
         None => Ok(listing),

@@ -16,8 +16,8 @@ pub const MOST_FRAMES: usize = 2_000;
 pub struct Stated {
     /// The number of the delay line.
     pub delay: u64,
-    /// The number of the passed line.
-    pub passed: u64,
+    /// The numbers of the passed lines, that of node 0 first.
+    pub passed: Vec<u64>,
     /// The entries of the start, send and tell lines.
     pub entries: Vec<Entry>,
     /// The frames of the frame lines.
@@ -27,7 +27,7 @@ pub struct Stated {
 /// The listing that states this, as document 01 prints it.
 pub fn print_stated(lines: &Lines, stated: &Stated) -> Vec<u8> {
     let (table, frames) = (words(&stated.entries), frame_words(&stated.frames));
-    listing(lines, stated.delay, stated.passed, &table, &frames)
+    listing(lines, stated.delay, &stated.passed, &table, &frames)
 }
 
 /// Document 02: "21: the listing is not of its form, or has over 3,000 entries or 2,000 frames".
@@ -41,11 +41,12 @@ pub fn read_listing(lines: &Lines, listing: &[u8]) -> Result<Stated, u8> {
     Ok(stated)
 }
 
-/// Reads the delay line, the passed line, the lines of entries and those of frames. Document 02:
+/// Reads the delay line, the passed lines, the lines of entries and those of frames. Document 02:
 /// "Within a row lines may stand in any order, and are read in it; rows and kinds keep theirs".
 fn read_stated(lines: &Lines, rest: &mut Rest) -> Option<Stated> {
-    let delay = read_total(rest, "(delay ")?;
-    let passed = read_total(rest, "(passed ")?;
+    let delay = read_delay(rest)?;
+    let passed = (0..lines.slots.len() as u64).map(|node| read_passed(rest, node));
+    let passed = passed.collect::<Option<Vec<u64>>>()?;
     let mut entries = Vec::new();
     while ["(start ", "(send ", "(tell "]
         .iter()
@@ -65,12 +66,25 @@ fn read_stated(lines: &Lines, rest: &mut Rest) -> Option<Stated> {
     })
 }
 
-/// Reads the delay line or the passed line.
-fn read_total(rest: &mut Rest, begin: &str) -> Option<u64> {
-    rest.expect(begin)?;
-    let total = rest.number()?;
+/// Reads the delay line.
+fn read_delay(rest: &mut Rest) -> Option<u64> {
+    rest.expect("(delay ")?;
+    let delay = rest.number()?;
     rest.expect(")\n")?;
-    Some(total)
+    Some(delay)
+}
+
+/// Reads the passed line of a node. Document 02: "one line for each node, `(passed (node 0) 0)`, in
+/// node order." "A listing with the old line, other nodes or another order is not of the form."
+fn read_passed(rest: &mut Rest, node: u64) -> Option<u64> {
+    rest.expect("(passed (node ")?;
+    if rest.number()? != node {
+        return None;
+    }
+    rest.expect(") ")?;
+    let count = rest.number()?;
+    rest.expect(")\n")?;
+    Some(count)
 }
 
 /// Reads the line of an entry: a process starts, an edge or a condition also has a place. "start,

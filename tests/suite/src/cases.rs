@@ -1,6 +1,7 @@
 //! The plans of the cases that document 01 prints, with document 02's parts, and of the tests of
 //! our readings of both.
 
+use crate::passed_lines::{three_counts, three_slots_turned, two_slots_turned};
 use crate::{bus, s, With};
 use reference::{Lines, When};
 
@@ -354,6 +355,9 @@ pub fn all() -> Vec<(&'static str, Lines)> {
         ("broadcasts that do not fit", broadcasts_that_do_not_fit()),
         ("false and true at one tick", false_and_true_at_one_tick()),
         ("frame of two lengths", frame_of_two_lengths()),
+        ("two slots turned", two_slots_turned()),
+        ("three slots turned", three_slots_turned()),
+        ("three counts", three_counts()),
         ("too many entries", too_many_entries()),
         ("too many frames", too_many_frames()),
     ]

@@ -102,6 +102,12 @@ pub fn compare(files: &Path, lines: &Lines, combinations: &[Combination], words:
     let panels = picture.matches("<g class=\"combination\">").count();
     assert_eq!(panels, combinations.len());
     assert_eq!(titles_in(&picture), titles(lines, combinations));
-    let delay = planned(lines).delay;
-    assert!(picture.contains(&format!(">worst delay {delay} (red line)")));
+    let planned = planned(lines);
+    let counts = planned.passed_by_node.iter().enumerate();
+    let counts: Vec<String> = counts
+        .map(|(node, count)| format!("{count} (node {node})"))
+        .collect();
+    let (delay, passed) = (planned.delay, counts.join(", "));
+    let top = format!(">worst delay {delay} (red line), passed over {passed}");
+    assert!(picture.contains(&top), "{top}");
 }

@@ -29,7 +29,8 @@ pub const S_LISTINGS: [(u64, &str); 3] = [
         1,
         "\
 (delay 50)
-(passed 0)
+(passed (node 0) 0)
+(passed (node 1) 0)
 (start 0 (when) (at 0))
 (start 1 (when (true 0)) (at 30))
 (start 2 (when (false 0)) (at 18))
@@ -47,7 +48,8 @@ pub const S_LISTINGS: [(u64, &str); 3] = [
         16,
         "\
 (delay 290)
-(passed 0)
+(passed (node 0) 0)
+(passed (node 1) 0)
 (start 0 (when) (at 0))
 (start 1 (when (true 0)) (at 180))
 (start 2 (when (false 0)) (at 108))
@@ -77,7 +79,8 @@ pub const PACKING_LISTINGS: [(u64, &str); 2] = [
         1,
         "\
 (delay 21)
-(passed 1)
+(passed (node 0) 1)
+(passed (node 1) 0)
 (start 0 (when) (at 0))
 (start 1 (when) (at 12))
 (start 2 (when) (at 19))
@@ -93,7 +96,8 @@ pub const PACKING_LISTINGS: [(u64, &str); 2] = [
         16,
         "\
 (delay 96)
-(passed 1)
+(passed (node 0) 1)
+(passed (node 1) 0)
 (start 0 (when) (at 0))
 (start 1 (when) (at 57))
 (start 2 (when) (at 94))

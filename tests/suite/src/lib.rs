@@ -1,15 +1,18 @@
 //! What the tests share: document 01's example with document 02's parts, short ways to write plans,
-//! the plans of the cases, listings with their answers, random inputs, and pictures that are compared with
-//! their tables.
+//! the plans of the cases, listings with their answers, random inputs, planners and checkers that are wrong,
+//! and pictures that are compared with their tables.
 
 pub mod cases;
+pub mod comparing_listings;
 pub mod drawing;
 pub mod heads;
 pub mod listing_readings;
 pub mod listings;
+pub mod passed_lines;
 pub mod tally;
 pub mod telling;
 pub mod telling_listings;
+pub mod wrong_passed;
 
 use generate::frames::{fewest_entries, with_frames};
 use generate::{plan, Kind, Random};
@@ -32,10 +35,12 @@ pub const S: &str = "\
 (edge (from 2) (to 3) (bytes 1) (when always))
 ";
 
-/// The listing of S that document 01 prints.
+/// The listing of S that document 01 prints, with the passed lines of document 02: "one line for each
+/// node, `(passed (node 0) 0)`, in node order."
 pub const S_LISTING: &str = "\
 (delay 34)
-(passed 0)
+(passed (node 0) 0)
+(passed (node 1) 0)
 (start 0 (when) (at 0))
 (start 1 (when (true 0)) (at 20))
 (start 2 (when (false 0)) (at 12))
@@ -150,7 +155,7 @@ pub fn planned(lines: &Lines) -> Planned {
 /// The listing of a plan with as many words as it takes.
 pub fn listed(lines: &Lines) -> String {
     let p = planned(lines);
-    let listing = reference::listing(lines, p.delay, p.passed, &p.words, &p.frames);
+    let listing = reference::listing(lines, p.delay, &p.passed_by_node, &p.words, &p.frames);
     String::from_utf8(listing).unwrap()
 }
 
@@ -193,7 +198,7 @@ pub fn question(node: u64, tick: u64, heard: u64, values: u64, begin: u64) -> Qu
 }
 
 /// How many random plans of each kind a test looks at.
-pub const MANY: [(Kind, u64); 7] = [
+pub const MANY: [(Kind, u64); 8] = [
     (Kind::Tiny, 1_500),
     (Kind::DenseBus, 250),
     (Kind::ManyConditions, 200),
@@ -201,16 +206,18 @@ pub const MANY: [(Kind, u64); 7] = [
     (Kind::Largest, 4),
     (Kind::LongestRound, 100),
     (Kind::ShortestRound, 250),
+    (Kind::UnevenBus, 400),
 ];
 
 /// The same, for tests that take long for each plan.
-pub const FEW: [(Kind, u64); 6] = [
+pub const FEW: [(Kind, u64); 7] = [
     (Kind::Tiny, 400),
     (Kind::DenseBus, 40),
     (Kind::ManyConditions, 30),
     (Kind::NestedAny, 60),
     (Kind::LongestRound, 20),
     (Kind::ShortestRound, 60),
+    (Kind::UnevenBus, 80),
 ];
 
 /// Calls a test with random plans and the generator for whatever else is random in it. A plan that

@@ -1,9 +1,11 @@
-//! Listings of other plans than S, each with its answer by hand: our readings of document 02, point 2.
+//! Listings of other plans than S, each with its answer by hand: our readings of document 02, points 2
+//! and 3.
 
 use crate::cases::{
     alone, broadcast_after_the_last_end, frame_of_two_lengths, one_and_five_ticks, packing,
 };
 use crate::heads::{PACKING_LISTINGS, S_LISTINGS};
+use crate::passed_lines::turned;
 use crate::{bus, s, With};
 use reference::{Lines, When};
 
@@ -18,6 +20,7 @@ pub fn readings() -> Vec<Reading> {
     all.extend(several_conditions());
     all.extend(heads());
     all.extend(eighteen_and_nineteen());
+    all.extend(turned());
     all
 }
 
@@ -26,7 +29,7 @@ pub fn readings() -> Vec<Reading> {
 fn eighteen_and_nineteen() -> Vec<Reading> {
     let starts = |first: u64, delay: u64| {
         let start_1 = "(start 1 (when) (at 0))";
-        format!("(delay {delay})\n(passed 0)\n(start 0 (when) (at {first}))\n{start_1}\n")
+        format!("(delay {delay})\n(passed (node 0) 0)\n(start 0 (when) (at {first}))\n{start_1}\n")
     };
     let both = one_and_five_ticks;
     let place_2 = PACKING_LISTINGS[0].1.replace("(place 3)", "(place 2)");
@@ -47,7 +50,7 @@ fn eighteen_and_nineteen() -> Vec<Reading> {
 /// One process of 7 ticks alone. A delay of ten digits can be right, but no listing can say so.
 fn delays_of_ten_digits() -> Vec<Reading> {
     let listing = |delay: u64, tick: u64| {
-        format!("(delay {delay})\n(passed 0)\n(start 0 (when) (at {tick}))\n")
+        format!("(delay {delay})\n(passed (node 0) 0)\n(start 0 (when) (at {tick}))\n")
     };
     let rows = [
         ("at 0", listing(7, 0), 0),
@@ -79,7 +82,8 @@ fn delays_of_ten_digits() -> Vec<Reading> {
 /// the same: the planner passes the second message over once.
 const ONE_MESSAGE_A_ROUND: &str = "\
 (delay 21)
-(passed 1)
+(passed (node 0) 1)
+(passed (node 1) 0)
 (start 0 (when) (at 0))
 (start 1 (when) (at 9))
 (start 2 (when) (at 14))
@@ -97,7 +101,8 @@ const ONE_MESSAGE_A_ROUND: &str = "\
 /// left behind.
 const NO_BROADCAST_LEFT_BEHIND: &str = "\
 (delay 7)
-(passed 4)
+(passed (node 0) 4)
+(passed (node 1) 0)
 (start 0 (when) (at 0))
 (start 1 (when) (at 6))
 (tell 0 (when) (at 5) (place 0))
@@ -106,13 +111,15 @@ const NO_BROADCAST_LEFT_BEHIND: &str = "\
 (frame 10 (node 0) (bytes 1))
 ";
 
+/// A listing with another count for node 0.
+fn with(listing: &str, passed: u64) -> String {
+    let (delay, rest) = listing.split_once('\n').unwrap();
+    let (_, rest) = rest.split_once('\n').unwrap();
+    format!("{delay}\n(passed (node 0) {passed})\n{rest}")
+}
+
 /// "its passed line is not the plan's pass-over count": not that of the checked table.
 fn counts_of_the_plan() -> Vec<Reading> {
-    let with = |listing: &str, passed: u64| {
-        let (delay, rest) = listing.split_once('\n').unwrap();
-        let (_, rest) = rest.split_once('\n').unwrap();
-        format!("{delay}\n(passed {passed})\n{rest}")
-    };
     let one = ONE_MESSAGE_A_ROUND;
     let none = NO_BROADCAST_LEFT_BEHIND;
     let deciders = broadcast_after_the_last_end;
@@ -144,7 +151,8 @@ fn counts_of_the_plan() -> Vec<Reading> {
 /// The frame at 8 has 3 bytes if the condition is false, and 1 if it is true.
 const TWO_LENGTHS: &str = "\
 (delay 12)
-(passed 0)
+(passed (node 0) 0)
+(passed (node 1) 0)
 (start 0 (when) (at 0))
 (start 1 (when (true 0)) (at 11))
 (start 2 (when (false 0)) (at 11))
@@ -197,7 +205,7 @@ fn in_columns(columns: &[&str]) -> String {
     let start = |column: &&str| format!("(start 2 (when{column}) (at 4))\n");
     let starts: Vec<String> = columns.iter().map(start).collect();
     format!(
-        "(delay 5)\n(passed 0)\n(start 0 (when) (at 0))\n(start 1 (when) (at 1))\n{}\
+        "(delay 5)\n(passed (node 0) 0)\n(start 0 (when) (at 0))\n(start 1 (when) (at 1))\n{}\
          (tell 0 (when) (at 2) (place 0))\n(tell 1 (when) (at 2) (place 1))\n\
          (frame 2 (node 0) (bytes 2))\n",
         starts.concat()
@@ -264,8 +272,10 @@ fn heads() -> Vec<Reading> {
             listing.to_string(),
             0,
         ));
-        let none = listing.replace("(passed 1)", "(passed 0)");
-        all.push(("packing, passed 0", lines, none, 22));
+        all.push(("packing, passed 0", lines.clone(), with(listing, 0), 22));
+        let of_the_receiver =
+            listing.replace("0) 1)\n(passed (node 1) 0)", "0) 0)\n(passed (node 1) 1)");
+        all.push(("packing, the receiver's", lines, of_the_receiver, 22));
     }
     all
 }

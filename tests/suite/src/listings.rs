@@ -1,15 +1,17 @@
 //! Listings for S and whole inputs of the checking program, each with its answer by hand: 0 for
 //! acceptance, or the number of the refusal.
 
+use crate::passed_lines::COUNTS;
 use crate::{S, S_LISTING};
 
 /// What a listing or an input is, its text, and its answer.
 pub type Worked = (&'static str, String, u8);
 
-/// S with everything a round, 8 ticks, later. Its passed line is the plan's count all the same.
+/// S with everything a round, 8 ticks, later. Its passed lines are the plan's counts all the same.
 pub const S_A_ROUND_LATER: &str = "\
 (delay 42)
-(passed 0)
+(passed (node 0) 0)
+(passed (node 1) 0)
 (start 0 (when) (at 8))
 (start 1 (when (true 0)) (at 28))
 (start 2 (when (false 0)) (at 20))
@@ -34,7 +36,10 @@ pub fn s_listing_with(changes: &[(&str, &str)]) -> String {
 }
 
 const DELAY: &str = "(delay 34)\n";
-const PASSED: &str = "(passed 0)\n";
+pub(crate) const PASSED_0: &str = "(passed (node 0) 0)\n";
+pub(crate) const PASSED_1: &str = "(passed (node 1) 0)\n";
+/// Both passed lines.
+pub(crate) const PASSED: &str = "(passed (node 0) 0)\n(passed (node 1) 0)\n";
 const START_0: &str = "(start 0 (when) (at 0))\n";
 const START_1: &str = "(start 1 (when (true 0)) (at 20))\n";
 const START_2: &str = "(start 2 (when (false 0)) (at 12))\n";
@@ -48,14 +53,12 @@ const FRAME_16: &str = "(frame 16 (node 0) (bytes 1))\n";
 const FRAME_28: &str = "(frame 28 (node 1) (bytes 2))\n";
 
 /// A part of S's listing, what replaces it, and the answer.
-type Replaced = (&'static str, &'static str, u8);
+pub(crate) type Replaced = (&'static str, &'static str, u8);
 
-/// Changes of the totals. Delays and counts are compared with all their digits.
-const TOTALS: [Replaced; 16] = [
+/// Changes of the delay line. Delays are compared with all their digits.
+const DELAYS: [Replaced; 9] = [
     (DELAY, "", 21),
-    (PASSED, "", 21),
     (DELAY, "(delay 34)\n(delay 34)\n", 21),
-    (PASSED, "(passed 0)\n(passed 0)\n", 21),
     (DELAY, "(delay 33)\n", 20),
     (DELAY, "(delay 35)\n", 20),
     (DELAY, "(delay 999999999)\n", 20),
@@ -63,11 +66,6 @@ const TOTALS: [Replaced; 16] = [
     (DELAY, "(delay 034)\n", 21),
     (DELAY, "(delay )\n", 21),
     (DELAY, "(delay -34)\n", 21),
-    (PASSED, "(passed 1)\n", 22),
-    (PASSED, "(passed 999999999)\n", 22),
-    (PASSED, "(passed 1000000000)\n", 21),
-    (PASSED, "(passed 00)\n", 21),
-    (PASSED, "(passed (node 0) 0)\n", 21),
 ];
 
 /// Changes of the lines of entries. Where an item is moved the old frame lines stay, so that 22 would
@@ -193,15 +191,23 @@ fn rearranged() -> Vec<Worked> {
             swapped(START_3_FALSE, START_3_TRUE),
             0,
         ),
-        ("delay and passed exchanged", swapped(DELAY, PASSED), 21),
+        ("delay and passed exchanged", swapped(DELAY, PASSED_0), 21),
+        ("delay behind passed", moved(DELAY, START_0), 21),
+        ("passed lines exchanged", swapped(PASSED_0, PASSED_1), 21),
+        ("an entry within passed", moved(START_0, PASSED_1), 21),
         ("starts out of order", swapped(START_0, START_1), 21),
         ("sends out of order", swapped(SEND_0, SEND_2), 21),
         ("a send before a start", moved(SEND_0, START_3_TRUE), 21),
         ("a tell before a send", moved(TELL_0, SEND_2), 21),
         ("a frame before an entry", moved(FRAME_8, TELL_0), 21),
         ("a frame before the totals", moved(FRAME_8, DELAY), 21),
-        ("an entry before passed", moved(START_0, PASSED), 21),
+        ("an entry before passed", moved(START_0, PASSED_0), 21),
         ("passed last", s_listing_with(&[(PASSED, "")]) + PASSED, 21),
+        (
+            "a passed line last",
+            s_listing_with(&[(PASSED_1, "")]) + PASSED_1,
+            21,
+        ),
         ("two frames exchanged", swapped(FRAME_8, FRAME_16), 22),
         (
             "the last two frames exchanged",
@@ -221,7 +227,7 @@ fn rearranged() -> Vec<Worked> {
         ),
         (
             "delay 33 and passed 1",
-            s_listing_with(&[(DELAY, "(delay 33)\n"), (PASSED, "(passed 1)\n")]),
+            s_listing_with(&[(DELAY, "(delay 33)\n"), (PASSED_1, "(passed (node 1) 1)\n")]),
             20,
         ),
         (
@@ -231,7 +237,7 @@ fn rearranged() -> Vec<Worked> {
         ),
         (
             "a frame missing and passed 1",
-            s_listing_with(&[(FRAME_8, ""), (PASSED, "(passed 1)\n")]),
+            s_listing_with(&[(FRAME_8, ""), (PASSED_0, "(passed (node 0) 1)\n")]),
             22,
         ),
         (
@@ -267,14 +273,20 @@ pub fn behind_s() -> Vec<Worked> {
         ("a round later", S_A_ROUND_LATER.to_string(), 0),
         (
             "a round later, passed 1",
-            S_A_ROUND_LATER.replace("(passed 0)", "(passed 1)"),
+            S_A_ROUND_LATER.replace("(passed (node 1) 0)", "(passed (node 1) 1)"),
             22,
         ),
         ("nothing", String::new(), 21),
+        ("totals of 0 alone", format!("(delay 0)\n{PASSED}"), 14),
         (
-            "totals of 0 alone",
+            "the totals of document 01 alone",
             "(delay 0)\n(passed 0)\n".to_string(),
-            14,
+            21,
+        ),
+        (
+            "the delay and one passed line",
+            format!("(delay 34)\n{PASSED_0}"),
+            21,
         ),
         ("the delay alone", "(delay 34)\n".to_string(), 21),
         ("a byte behind", format!("{S_LISTING}x"), 21),
@@ -291,7 +303,8 @@ pub fn behind_s() -> Vec<Worked> {
         ("a refusal", "(refused 9)\n".to_string(), 21),
         ("the plan", S.to_string(), 21),
     ];
-    for (old, new, answer) in TOTALS.into_iter().chain(ENTRIES).chain(FRAMES) {
+    let changes = DELAYS.into_iter().chain(COUNTS);
+    for (old, new, answer) in changes.chain(ENTRIES).chain(FRAMES) {
         all.push((new, s_listing_with(&[(old, new)]), answer));
     }
     all.extend(rearranged());

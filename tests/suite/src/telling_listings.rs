@@ -5,7 +5,7 @@ use std::process::Output;
 
 use reference::{failing_listing, print, FailingListing, Lines};
 
-use crate::telling::{self, one_by_one};
+use crate::telling::{self, folder, one_by_one};
 
 /// The scripts that say where a listing fails.
 const SCRIPTS: [&str; 3] = ["text.awk", "table.awk", "listing.awk"];
@@ -23,8 +23,8 @@ pub struct Refused {
     pub place: FailingListing,
 }
 
-/// A listing of a plan with this pass-over count, if it is refused.
-pub fn refused(lines: &Lines, listing: Vec<u8>, pass_overs: u64) -> Option<Refused> {
+/// A listing of a plan with these pass-over counts, if it is refused.
+pub fn refused(lines: &Lines, listing: Vec<u8>, pass_overs: &[u64]) -> Option<Refused> {
     let place = failing_listing(lines, &listing, pass_overs)?;
     Some(Refused {
         lines: lines.clone(),
@@ -53,4 +53,25 @@ pub fn told_by(awk: &[&str], folder: &Path, number: u8, all: &[&Refused]) -> Vec
         }
     }
     one_by_one(&run(awk, folder, number, &names))
+}
+
+/// Panics unless exactly this is said of a listing of a plan that passes nothing over, refused with this
+/// number. The files of the test lie below a folder for all tests.
+pub fn says_of(below: &str, lines: &Lines, listing: &str, number: u8, expected: &str) {
+    let none = vec![0; lines.slots.len()];
+    let refused = refused(lines, listing.as_bytes().to_vec(), &none).expect("a refused listing");
+    assert_eq!(refused.place.number, number, "{listing}");
+    let thread = std::thread::current();
+    let name = format!("words {}", thread.name().unwrap_or_default());
+    let told = told_by(&["awk"], &folder(below, &name), number, &[&refused]);
+    assert_eq!(told, [expected]);
+}
+
+/// What is said where a line of this form is expected.
+pub fn expected(form: &str) -> String {
+    format!(
+        "  expected a line of this form, N a number of one to nine digits without a needless leading zero
+    {form}
+"
+    )
 }

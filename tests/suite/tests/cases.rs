@@ -130,6 +130,7 @@ fn packing_case() {
     ];
     assert_eq!(listed_from(&packing(), "(send"), expected);
     assert_eq!(planned(&packing()).passed, 1);
+    assert_eq!(planned(&packing()).passed_by_node, [1, 0]);
     assert_eq!(planned(&packing()).delay, 16);
 }
 

@@ -27,7 +27,7 @@ fn s_is_drawn() {
         "process 3: ticks 32 to 34",
         "tell 0: frame of unit 0, ticks 8 to 12",
         "combination 1: condition 0 true; ends at 34, the worst delay",
-        ">worst delay 34 (red line), passed over 0<",
+        ">worst delay 34 (red line), passed over 0 (node 0), 0 (node 1)<",
         ">0 false<",
     ] {
         assert!(picture.contains(title), "{title}");
@@ -43,7 +43,7 @@ fn frames_are_drawn_with_their_head() {
         "tell 0: frame of unit 0, ticks 12 to 18",
         "send 2: frame of unit 1, ticks 42 to 48",
         "combination 1: condition 0 true; ends at 50, the worst delay",
-        ">worst delay 50 (red line), passed over 0, head 1<",
+        ">worst delay 50 (red line), passed over 0 (node 0), 0 (node 1), head 1<",
     ] {
         assert!(picture.contains(title), "{title}");
     }

@@ -3,16 +3,16 @@
 use std::path::PathBuf;
 
 use generate::frames::with_frames;
+use generate::passed_texts::wrong_passed_lines;
 use generate::tables::{damaged, serial, Table};
+use generate::wrong_counts::wrong_counts;
 use generate::{Kind, Random};
-use reference::bus::{next_beginning, round_ticks, slot_of};
-use reference::check::Course;
 use reference::check_listing::frames_given;
-use reference::table::{entries, row_node, row_process, Entry, Row};
-use reference::who_runs::{value, Combination};
-use reference::{print_stated, read_listing, Lines, Stated};
+use reference::table::{entries, Entry};
+use reference::{print_stated, Lines, Stated};
+use suite::comparing_listings::compare;
 use suite::listings::behind_s;
-use suite::telling::{self, awks, head, number_behind};
+use suite::telling::{self, awks};
 use suite::telling_listings::{self, refused, run, Refused, NUMBERS};
 use suite::{for_plans, planned, s, S_LISTING};
 
@@ -27,135 +27,6 @@ fn told_by(awk: &[&str], name: &str, number: u8, all: &[&Refused]) -> Vec<String
     let told = telling_listings::told_by(awk, &folder(name), number, all);
     assert_eq!(told.len(), all.len(), "of some listing nothing is said");
     told
-}
-
-/// A combination in words.
-fn combination_words(lines: &Lines, combination: Combination) -> String {
-    let mut words = format!("in combination {combination}");
-    for condition in 0..lines.conditions.len() {
-        words += if condition == 0 { ", " } else { " " };
-        words += &format!("({} {condition})", value(combination, condition));
-    }
-    words
-}
-
-/// A row in words.
-fn row_words(row: Row) -> String {
-    match row {
-        Row::Process(number) => format!("process {number}"),
-        Row::Edge(number) => format!("edge {number}"),
-        Row::Condition(number) => format!("condition {number}"),
-    }
-}
-
-/// Panics unless what is said of a listing is so.
-fn compare(refused: &Refused, said: &str) {
-    let Refused {
-        lines,
-        listing,
-        place,
-    } = refused;
-    let combination = place.combination.map(|c| combination_words(lines, c));
-    let head_line = match (place.line, place.row) {
-        (Some(line), _) => head(listing, line),
-        (None, row) => format!(
-            "no entry of {} is met {}\n",
-            row_words(row.unwrap()),
-            combination.clone().unwrap()
-        ),
-    };
-    let why = said.strip_prefix(&head_line);
-    let why = why.unwrap_or_else(|| panic!("expected {head_line}said {said}"));
-    assert!(why.starts_with("  ") && why.ends_with('\n'), "{said}");
-    if let Some(words) = combination.filter(|_| place.line.is_some()) {
-        assert!(why.starts_with(&format!("  {words}, ")), "{words}: {said}");
-    }
-    let earlier = place
-        .earlier
-        .map(|line| format!("  {}", head(listing, line)));
-    assert_eq!(why.contains("\n  line "), earlier.is_some(), "{said}");
-    if let Some(earlier) = earlier {
-        assert!(why.ends_with(&format!(":\n{earlier}")), "{earlier}{said}");
-    }
-    if let Some(row) = place.row {
-        assert!(why.contains(&row_words(row)), "{said}");
-    }
-    if let Some(delay) = place.delay {
-        let says = format!("  the greatest delay is {delay}: in combination ");
-        assert!(why.starts_with(&says), "{said}");
-    }
-    match place.number {
-        15..=17 => compare_ticks(refused, why),
-        21 => compare_form(refused, why),
-        22 => compare_frames(refused, why),
-        _ => {}
-    }
-}
-
-/// Panics unless the ticks that are said of a listing refused with 15 to 17 are so.
-fn compare_ticks(refused: &Refused, why: &str) {
-    let lines = &refused.lines;
-    let stated = read_listing(lines, &refused.listing).unwrap();
-    let course = Course::of(lines, &stated.entries, refused.place.combination.unwrap());
-    let entry = stated.entries[refused.place.line.unwrap() - 3];
-    let row = reference::table::row(lines, entry.row).unwrap();
-    let tick = |words| number_behind(why, words).map(|tick| tick as u64);
-    if let Some(from) = tick("is known from tick ") {
-        let condition = number_behind(why, "condition ").unwrap();
-        assert_eq!(course.known_from(condition), Some(from), "{why}");
-        assert!(from > entry.tick.into(), "{why}");
-    } else if why.contains("is never known") {
-        let condition = number_behind(why, "condition ").unwrap();
-        assert_eq!(course.known_from(condition), None, "{why}");
-    } else if let Some(from) = tick("delivers at tick ") {
-        let edge = number_behind(why, "edge ").unwrap();
-        assert_eq!(course.delivered_from(edge), Some(from), "{why}");
-        assert!(from > entry.tick.into(), "{why}");
-    } else if let Some(end) = tick("ends at tick ") {
-        assert_eq!(course.end(row_process(lines, row)), Some(end), "{why}");
-        assert!(end > entry.tick.into(), "{why}");
-    } else {
-        let slot = slot_of(lines, row_node(lines, row));
-        let next = next_beginning(lines, slot, entry.tick.into());
-        let begins = match next.checked_sub(round_ticks(lines)) {
-            Some(before) => format!(" begins at ticks {before} and {next}"),
-            None => format!(" first begins at tick {next}"),
-        };
-        let says = format!("{begins}, and not at {}\n", entry.tick);
-        assert!(why.ends_with(&says), "{says}{why}");
-    }
-}
-
-/// Panics unless the words of a line that is not of the form fit it.
-fn compare_form(refused: &Refused, why: &str) {
-    let line = refused.place.line.unwrap();
-    let begin = telling::begin_of(&refused.listing, line);
-    let rest = &refused.listing[begin..];
-    let more: &[u8] = if line == 1 { b"\n(passed 0)\n" } else { b"\n" };
-    let with_feed = [&refused.listing[..], more].concat();
-    let lacks_feed = !rest.is_empty() && read_listing(&refused.lines, &with_feed).is_ok();
-    assert_eq!(why.contains("line feed at the end"), lacks_feed, "{why}");
-    let missing = rest.is_empty();
-    let says_missing = why.contains("the listing ends, and") || why.contains("listing is empty");
-    assert_eq!(says_missing, missing, "{why}");
-    if line > 3_002 && rest.starts_with(b"(s") {
-        assert!(why.contains("at most 3000 entries"), "{why}");
-    }
-}
-
-/// Panics unless what is said of the frames or of the passed line is so.
-fn compare_frames(refused: &Refused, why: &str) {
-    match refused.place.frame {
-        Some(frame) => {
-            let (tick, node, bytes) = (frame.tick, frame.node, frame.bytes);
-            let shown = format!(" (frame {tick} (node {node}) (bytes {bytes}))\n");
-            assert!(why.ends_with(&shown), "{why}");
-        }
-        None if refused.place.line == Some(2) => {
-            assert!(why.contains("not the plan's pass-over count"), "{why}");
-        }
-        None => assert!(why.contains("the entries give no frame"), "{why}"),
-    }
 }
 
 /// Compares what is said of these listings, and counts them by refusal.
@@ -188,27 +59,28 @@ const PLANS: [(Kind, u64); 6] = [
 
 /// The listing of a table with the frames that its entries give, except those with a place that none
 /// has: the rows in order, and within each the entries in the order in which they stand.
-fn stated(lines: &Lines, table: &Table, passed: u64) -> Stated {
+fn stated(lines: &Lines, table: &Table, passed: &[u64]) -> Stated {
     let mut all: Vec<Entry> = entries(&table.words);
     all.sort_by_key(|entry| entry.row);
     let placed = all.iter().copied().filter(|entry| entry.place <= 63);
     let placed: Vec<Entry> = placed.collect();
     Stated {
         delay: table.delay,
-        passed,
+        passed: passed.to_vec(),
         frames: frames_given(lines, &placed),
         entries: all,
     }
 }
 
-/// The planner's table and a serial one.
-fn sound_tables(lines: &Lines, random: &mut Random) -> (Vec<Table>, u64) {
+/// The planner's table and a serial one, and the plan's pass-over counts.
+fn sound_tables(lines: &Lines, random: &mut Random) -> (Vec<Table>, Vec<u64>) {
     let planned = planned(lines);
     let table = Table {
         words: planned.words,
         delay: planned.delay,
     };
-    (vec![table, serial(lines, random)], planned.passed)
+    let tables = vec![table, serial(lines, random)];
+    (tables, planned.passed_by_node)
 }
 
 #[test]
@@ -222,12 +94,12 @@ fn damaged_tables() {
                     let Some(table) = damaged(lines, table, number, random) else {
                         continue;
                     };
-                    let mut stated = stated(lines, &table, passed);
+                    let mut stated = stated(lines, &table, &passed);
                     if random.percent(30) {
                         random.shuffle(&mut stated.entries);
                         stated.entries.sort_by_key(|entry| entry.row);
                     }
-                    all.extend(refused(lines, print_stated(lines, &stated), passed));
+                    all.extend(refused(lines, print_stated(lines, &stated), &passed));
                 }
             }
         }
@@ -237,29 +109,36 @@ fn damaged_tables() {
     assert!(fewest[..8].iter().all(|&count| count > 30), "{counts:?}");
 }
 
-/// Frame lines left out, doubled, exchanged or changed, and other passed lines.
+/// Frame lines left out, doubled, exchanged or changed, and other counts on the passed lines.
 #[test]
 fn damaged_frames() {
     let mut all = Vec::new();
     for_plans(52, &PLANS, |lines, random| {
         let (tables, passed) = sound_tables(lines, random);
         for table in &tables {
-            for change in 0..8 {
-                let mut stated = stated(lines, table, passed);
+            for change in 0..9 {
+                let mut stated = stated(lines, table, &passed);
                 let frames = &mut stated.frames;
                 let place = random.index(frames.len().max(1));
                 match change {
-                    0 => stated.passed += random.between(1, 9),
-                    1 => frames.clear(),
+                    0 => {
+                        let node = random.index(passed.len());
+                        stated.passed[node] += random.between(1, 9);
+                    }
+                    1 => {
+                        let counts = wrong_counts(lines, &stated, random);
+                        stated.passed = random.one_of(&counts).1;
+                    }
+                    2 => frames.clear(),
                     _ if frames.is_empty() => continue,
-                    2 => drop(frames.remove(place)),
-                    3 => frames.insert(place, frames[place]),
-                    4 => frames.swap(0, place),
-                    5 => frames[place].tick += 1,
-                    6 => frames[place].node += 1,
+                    3 => drop(frames.remove(place)),
+                    4 => frames.insert(place, frames[place]),
+                    5 => frames.swap(0, place),
+                    6 => frames[place].tick += 1,
+                    7 => frames[place].node += 1,
                     _ => frames[place].bytes = random.between(0, 70) as u32,
                 }
-                all.extend(refused(lines, print_stated(lines, &stated), passed));
+                all.extend(refused(lines, print_stated(lines, &stated), &passed));
             }
         }
     });
@@ -302,9 +181,9 @@ fn damaged_texts() {
     for_plans(53, &PLANS, |lines, random| {
         let (tables, passed) = sound_tables(lines, random);
         for table in &tables {
-            let text = print_stated(lines, &stated(lines, table, passed));
+            let text = print_stated(lines, &stated(lines, table, &passed));
             for _ in 0..12 {
-                all.extend(refused(lines, damaged_text(&text, random), passed));
+                all.extend(refused(lines, damaged_text(&text, random), &passed));
             }
         }
     });
@@ -312,10 +191,27 @@ fn damaged_texts() {
     assert!(counts[21] > 1_000, "{counts:?}");
 }
 
+/// Passed lines that are not of the form.
+#[test]
+fn damaged_passed_lines() {
+    let mut all = Vec::new();
+    for_plans(55, &PLANS, |lines, random| {
+        let (tables, passed) = sound_tables(lines, random);
+        for table in &tables {
+            let stated = stated(lines, table, &passed);
+            for damaged in wrong_passed_lines(lines, &stated, random) {
+                all.extend(refused(lines, damaged.text, &passed));
+            }
+        }
+    });
+    let counts = compare_all("passed", &all);
+    assert!(counts[21] > 2_000, "{counts:?}");
+}
+
 /// The listings of S that are refused by hand.
 fn refused_of_s() -> Vec<Refused> {
     let all = behind_s().into_iter();
-    all.filter_map(|(_, listing, _)| refused(&s(), listing.into_bytes(), 0))
+    all.filter_map(|(_, listing, _)| refused(&s(), listing.into_bytes(), &[0, 0]))
         .collect()
 }
 
@@ -332,9 +228,9 @@ fn s_damaged_everywhere() {
     for place in 0..S_LISTING.len() {
         let (before, after) = S_LISTING.as_bytes().split_at(place);
         let more = [b"0", b"1", b" ", b")", b"\n", b"\0", b"9"][place % 7];
-        all.extend(refused(&s(), [before, more, after].concat(), 0));
+        all.extend(refused(&s(), [before, more, after].concat(), &[0, 0]));
         if place % 2 == 0 {
-            all.extend(refused(&s(), before.to_vec(), 0));
+            all.extend(refused(&s(), before.to_vec(), &[0, 0]));
         }
     }
     let counts = compare_all("everywhere", &all);
@@ -342,16 +238,16 @@ fn s_damaged_everywhere() {
 }
 
 /// A plan with as many entries and frames as a listing may have.
-fn largest(random: &mut Random) -> (Lines, Stated, u64) {
+fn largest(random: &mut Random) -> (Lines, Stated, Vec<u64>) {
     let lines = with_frames(2_000, 3_000, random);
     let planned = planned(&lines);
     let table = Table {
         words: planned.words,
         delay: planned.delay,
     };
-    let stated = stated(&lines, &table, planned.passed);
+    let stated = stated(&lines, &table, &planned.passed_by_node);
     assert_eq!((stated.entries.len(), stated.frames.len()), (3_000, 2_000));
-    (lines, stated, planned.passed)
+    (lines, stated, planned.passed_by_node)
 }
 
 /// Listings of the largest size, and of one entry or frame more, within some seconds each.
@@ -361,7 +257,7 @@ fn largest_listings() {
     let (lines, whole, passed) = largest(&mut random);
     let mut all = Vec::new();
     let mut add = |stated: &Stated| {
-        all.extend(refused(&lines, print_stated(&lines, stated), passed));
+        all.extend(refused(&lines, print_stated(&lines, stated), &passed));
     };
     let changed = |change: &dyn Fn(&mut Stated)| {
         let mut stated = whole.clone();
@@ -372,7 +268,7 @@ fn largest_listings() {
     add(&changed(&|s| s.entries.push(s.entries[2_999])));
     add(&changed(&|s| s.frames.push(s.frames[1_999])));
     add(&changed(&|s| s.frames.swap(1_998, 1_999)));
-    add(&changed(&|s| s.passed += 1));
+    add(&changed(&|s| s.passed[1] += 1));
     add(&changed(&|s| s.delay += 1));
     add(&changed(&|s| s.entries[2_999].place = 64));
     add(&changed(&|s| s.entries.truncate(2_999)));

@@ -2,71 +2,24 @@
 
 use reference::Lines;
 use suite::listings::s_listing_with;
-use suite::telling::{folder, WIDEST};
-use suite::telling_listings::{refused, told_by};
+use suite::telling::WIDEST;
+use suite::telling_listings::{self, expected};
 use suite::{bus, s, With, S_LISTING};
 
 /// Panics unless exactly this is said of a listing of a plan, refused with this number.
 fn says_of(lines: &Lines, listing: &str, number: u8, expected: &str) {
-    let refused = refused(lines, listing.as_bytes().to_vec(), 0).expect("a refused listing");
-    assert_eq!(refused.place.number, number, "{listing}");
-    let thread = std::thread::current();
-    let name = format!("words {}", thread.name().unwrap_or_default());
-    let folder = folder(env!("CARGO_TARGET_TMPDIR"), &name);
-    let told = told_by(&["awk"], &folder, number, &[&refused]);
-    assert_eq!(told, [expected]);
+    telling_listings::says_of(
+        env!("CARGO_TARGET_TMPDIR"),
+        lines,
+        listing,
+        number,
+        expected,
+    );
 }
 
 /// Panics unless exactly this is said of S's listing with a part replaced, refused with this number.
 fn says(number: u8, (old, new): (&str, &str), expected: &str) {
     says_of(&s(), &s_listing_with(&[(old, new)]), number, expected);
-}
-
-/// What is said of a line of this form that is expected.
-fn expected(form: &str) -> String {
-    format!(
-        "  expected a line of this form, N a number of one to nine digits without a needless leading zero
-    {form}
-"
-    )
-}
-
-#[test]
-fn lines_that_are_missing() {
-    let missing = |listing: &str, line: &str, form: &str| {
-        let says = format!("{line}\n{}", expected(form));
-        says_of(&s(), listing, 21, &says);
-    };
-    missing("", "line 1:\n  the listing is empty", "(delay N)");
-    missing(
-        "(delay 34)\n",
-        "line 2:\n  the listing ends, and the passed line is missing",
-        "(passed N)",
-    );
-    missing(
-        "(passed 0)\n",
-        "line 1: (passed 0)\n  the delay line must stand first",
-        "(delay N)",
-    );
-    missing(
-        &s_listing_with(&[("(passed 0)\n", "")]),
-        "line 2: (start 0 (when) (at 0))\n  the passed line must stand here",
-        "(passed N)",
-    );
-    missing(
-        "(delay 34)\n(p",
-        "line 2: (p\n  the listing ends within this line",
-        "(passed N)",
-    );
-    says_of(
-        &s(),
-        &S_LISTING[..S_LISTING.len() - 1],
-        21,
-        "\
-line 13: (frame 28 (node 1) (bytes 2))
-  the line feed at the end of the last line is missing
-",
-    );
 }
 
 #[test]
@@ -80,7 +33,7 @@ fn lines_out_of_order() {
         21,
         (&both, &exchanged),
         &format!(
-            "line 11: {tell}  a tell line cannot stand below a frame line\n{}",
+            "line 12: {tell}  a tell line cannot stand below a frame line\n{}",
             expected("(frame N (node N) (bytes N))")
         ),
     );
@@ -88,7 +41,7 @@ fn lines_out_of_order() {
         21,
         ("(start 2 ", "(start 0 (when) (at 0))\n(start 2 "),
         "\
-line 5: (start 0 (when) (at 0))
+line 6: (start 0 (when) (at 0))
   a line of process 0 cannot stand below one of process 1
 ",
     );
@@ -98,7 +51,7 @@ line 5: (start 0 (when) (at 0))
         21,
         &format!(
             "\
-line 14:
+line 15:
   the line is empty
   an empty line stands between the plan and the listing only
 {}",
@@ -109,7 +62,7 @@ line 14:
         21,
         ("(tell 0", "(x\n(tell 0"),
         "\
-line 10: (x
+line 11: (x
   no line that may stand here begins so
   expected a line of one of these forms, N a number of one to nine digits without a needless leading zero
     (send N (when) (at N) (place N)), or with conditions: (when (true N) (false N) ..)
@@ -131,34 +84,34 @@ fn lines_that_differ_inside() {
     inside(
         ("(start 1 (when (true", "(start 1 (when(true"),
         "\
-line 4: (start 1 (when(true 0)) (at 20))
+line 5: (start 1 (when(true 0)) (at 20))
   from column 15 on, expected \")\", or (true N) or (false N) behind a blank",
     );
     inside(
         ("(start 0 (when)", "(start 0 (when )"),
-        "line 3: (start 0 (when ) (at 0))\n  from column 16 on, expected \"(\"",
+        "line 4: (start 0 (when ) (at 0))\n  from column 16 on, expected \"(\"",
     );
     inside(
         ("(start 1 (when (true", "(start 1 (when (True"),
         "\
-line 4: (start 1 (when (True 0)) (at 20))
+line 5: (start 1 (when (True 0)) (at 20))
   from column 17 on, expected \"true\" or \"false\"",
     );
     inside(
         ("(at 0))", "(at 0) (place 0))"),
-        "line 3: (start 0 (when) (at 0) (place 0))\n  from column 23 on, expected \")\"",
+        "line 4: (start 0 (when) (at 0) (place 0))\n  from column 23 on, expected \")\"",
     );
     inside(
         ("(at 12))", "(at 12))\r"),
         "\
-line 5: (start 2 (when (false 0)) (at 12))\\x0d
+line 6: (start 2 (when (false 0)) (at 12))\\x0d
   from column 35 on, expected the end of the line; a carriage return (\\x0d) stands there, and must not",
     );
     let when = "(true 0) ".repeat(12);
     inside(
         ("(start 1 (when (", &format!("(start 1 (when {when}(")),
         &format!(
-            "line 4: (start 1 (when {} .. (cut here)\n  the line is longer than any of its form",
+            "line 5: (start 1 (when {} .. (cut here)\n  the line is longer than any of its form",
             &when[..WIDEST - "(start 1 (when ".len()]
         ),
     );
@@ -166,7 +119,7 @@ line 5: (start 2 (when (false 0)) (at 12))\\x0d
         21,
         ("(at 16) (place 0)", "(at 16)"),
         "\
-line 8: (send 0 (when (true 0)) (at 16))
+line 9: (send 0 (when (true 0)) (at 16))
   from column 32 on, expected a blank
   the form of the line: (send N (when) (at N) (place N)), or with conditions: (when (true N) (false N) ..)
 ",
@@ -188,7 +141,7 @@ fn numbers_that_the_plan_lacks() {
         21,
         ("(start 1 ", "(start 4 "),
         "\
-line 4: (start 4 (when (true 0)) (at 20))
+line 5: (start 4 (when (true 0)) (at 20))
   there is no process 4: the number of process lines in the plan is 4, and they are numbered from 0
 ",
     );
@@ -196,7 +149,7 @@ line 4: (start 4 (when (true 0)) (at 20))
         21,
         ("(send 2 ", "(send 4 "),
         "\
-line 9: (send 4 (when (true 0)) (at 28) (place 0))
+line 10: (send 4 (when (true 0)) (at 28) (place 0))
   there is no edge 4: the number of edge lines in the plan is 4, and they are numbered from 0
 ",
     );
@@ -204,7 +157,7 @@ line 9: (send 4 (when (true 0)) (at 28) (place 0))
         ("(tell 0 (when)", "(tell 1 (when)"),
         ("(tell 0 (when)", "(tell 0 (when (true 1))"),
     ] {
-        let line = format!("line 10: {} (at 8) (place 0))", change.1);
+        let line = format!("line 11: {} (at 8) (place 0))", change.1);
         let says = "there is no condition 1: the number of condition lines in the plan is 1";
         self::says(
             21,
@@ -219,7 +172,7 @@ line 9: (send 4 (when (true 0)) (at 28) (place 0))
             "(start 1 (when (true 0) (true 0))",
         ),
         "\
-line 4: (start 1 (when (true 0) (true 0)) (at 20))
+line 5: (start 1 (when (true 0) (true 0)) (at 20))
   condition 0 stands behind condition 0, and they must ascend
 ",
     );
@@ -231,7 +184,7 @@ fn entries_alone() {
         13,
         ("(send 0 ", "(send 1 "),
         "\
-line 8: (send 1 (when (true 0)) (at 16) (place 0))
+line 9: (send 1 (when (true 0)) (at 16) (place 0))
   edge 1 is local: processes 0 and 2 are both on node 0, and nothing is sent
 ",
     );
@@ -239,7 +192,7 @@ line 8: (send 1 (when (true 0)) (at 16) (place 0))
         13,
         ("(at 8) (place 0)", "(at 8) (place 64)"),
         "\
-line 10: (tell 0 (when) (at 8) (place 64))
+line 11: (tell 0 (when) (at 8) (place 64))
   place is 64, and must be from 0 to 63
 ",
     );
@@ -276,16 +229,16 @@ no entry of condition 0 is met in combination 0, (false 0)
         14,
         (start, &start.repeat(2)),
         "\
-line 4: (start 0 (when) (at 0))
+line 5: (start 0 (when) (at 0))
   in combination 0, (false 0), this is the second entry of process 0 whose column is met, and there must be exactly one:
-  line 3: (start 0 (when) (at 0))
+  line 4: (start 0 (when) (at 0))
 ",
     );
     says(
         14,
         ("(start 1 (when (true 0))", "(start 1 (when)"),
         "\
-line 4: (start 1 (when) (at 20))
+line 5: (start 1 (when) (at 20))
   in combination 0, (false 0), this column is met
   process 1 is not active there, and must have no entry whose column is met
 ",
@@ -294,7 +247,7 @@ line 4: (start 1 (when) (at 20))
         14,
         ("(send 0 (when (true 0))", "(send 0 (when)"),
         "\
-line 8: (send 0 (when) (at 16) (place 0))
+line 9: (send 0 (when) (at 16) (place 0))
   in combination 0, (false 0), this column is met
   edge 0 does not carry there, and must have no entry whose column is met
 ",
@@ -307,7 +260,7 @@ fn ticks_of_a_combination() {
         15,
         ("(at 12)", "(at 11)"),
         "\
-line 5: (start 2 (when (false 0)) (at 11))
+line 6: (start 2 (when (false 0)) (at 11))
   in combination 0, (false 0), condition 0 is known from tick 12 on, and this is at tick 11
 ",
     );
@@ -315,7 +268,7 @@ line 5: (start 2 (when (false 0)) (at 11))
         16,
         ("(at 32)", "(at 31)"),
         "\
-line 7: (start 3 (when (true 0)) (at 31))
+line 8: (start 3 (when (true 0)) (at 31))
   in combination 1, (true 0), edge 2 from process 1 delivers at tick 32, and this starts at tick 31
 ",
     );
@@ -323,7 +276,7 @@ line 7: (start 3 (when (true 0)) (at 31))
         16,
         ("(at 8)", "(at 0)"),
         "\
-line 10: (tell 0 (when) (at 0) (place 0))
+line 11: (tell 0 (when) (at 0) (place 0))
   in combination 0, (false 0), the sender, process 0, ends at tick 4, and this is sent at tick 0
 ",
     );
@@ -331,7 +284,7 @@ line 10: (tell 0 (when) (at 0) (place 0))
         17,
         ("(at 28)", "(at 27)"),
         "\
-line 9: (send 2 (when (true 0)) (at 27) (place 0))
+line 10: (send 2 (when (true 0)) (at 27) (place 0))
   in combination 1, (true 0), the slot of node 1 begins at ticks 20 and 28, and not at 27
 ",
     );
@@ -350,7 +303,7 @@ fn lines_that_collide() {
     let two = bus(1, &[(0, 1)]).all(0, 1).all(0, 5);
     says_of(
         &two,
-        "(delay 5)\n(passed 0)\n(start 0 (when) (at 0))\n(start 1 (when) (at 0))\n",
+        "(delay 5)\n(passed (node 0) 0)\n(start 0 (when) (at 0))\n(start 1 (when) (at 0))\n",
         18,
         "\
 line 4: (start 1 (when) (at 0))
@@ -362,7 +315,7 @@ line 4: (start 1 (when) (at 0))
         19,
         ("(at 28) (place 0)", "(at 28) (place 1)"),
         "\
-line 9: (send 2 (when (true 0)) (at 28) (place 1))
+line 10: (send 2 (when (true 0)) (at 28) (place 1))
   in combination 1, (true 0), the item has places 1 to 2, and the last place of node 1's slot is 1
 ",
     );
@@ -374,7 +327,8 @@ line 9: (send 2 (when (true 0)) (at 28) (place 1))
         &sends,
         "\
 (delay 10)
-(passed 0)
+(passed (node 0) 0)
+(passed (node 1) 0)
 (start 0 (when) (at 0))
 (start 1 (when) (at 8))
 (start 2 (when) (at 9))
@@ -384,9 +338,9 @@ line 9: (send 2 (when (true 0)) (at 28) (place 1))
 ",
         19,
         "\
-line 7: (send 1 (when) (at 4) (place 2))
+line 8: (send 1 (when) (at 4) (place 2))
   in combination 0, the item has places 2 to 2, and another of this frame has places 0 to 2:
-  line 6: (send 0 (when) (at 4) (place 0))
+  line 7: (send 0 (when) (at 4) (place 0))
 ",
     );
 }
@@ -398,11 +352,11 @@ fn what_comes_late_or_never() {
     let sends = bus(1, &[(0, 4), (1, 4)]).all(1, 1).all(0, 1);
     says_of(
         &sends.edge(0, 1, 3, always),
-        "(delay 8)\n(passed 0)\n(start 0 (when) (at 0))\n(start 1 (when) (at 7))\n\
+        "(delay 8)\n(passed (node 0) 0)\n(passed (node 1) 0)\n(start 0 (when) (at 0))\n(start 1 (when) (at 7))\n\
          (send 0 (when) (at 3) (place 0))\n(frame 3 (node 1) (bytes 3))\n",
         17,
         "\
-line 5: (send 0 (when) (at 3) (place 0))
+line 6: (send 0 (when) (at 3) (place 0))
   in combination 0, the slot of node 1 first begins at tick 4, and not at 3
 ",
     );
@@ -413,7 +367,7 @@ line 5: (send 0 (when) (at 3) (place 0))
         &nested.edge(0, 1, 1, reference::When::True(0)),
         "\
 (delay 20)
-(passed 0)
+(passed (node 0) 0)
 (start 0 (when) (at 0))
 (start 1 (when (true 0)) (at 4))
 (start 2 (when (false 1)) (at 19))
@@ -428,49 +382,5 @@ line 5: (send 0 (when) (at 3) (place 0))
 line 5: (start 2 (when (false 1)) (at 19))
   in combination 0, (false 0) (false 1), condition 1 is never known: process 1, which decides it, is not active
 ",
-    );
-}
-
-#[test]
-fn frames_and_the_passed_line() {
-    let last = "(frame 28 (node 1) (bytes 2))\n";
-    says(
-        22,
-        ("(frame 8 (node 0) (bytes 1))\n", ""),
-        "\
-line 11: (frame 16 (node 0) (bytes 1))
-  the frame that the entries give here is (frame 8 (node 0) (bytes 1))
-",
-    );
-    says(
-        22,
-        (last, ""),
-        "\
-line 13:
-  the listing ends, and the entries give another frame: (frame 28 (node 1) (bytes 2))
-",
-    );
-    says(
-        22,
-        (last, &last.repeat(2)),
-        "\
-line 14: (frame 28 (node 1) (bytes 2))
-  the entries give no frame behind that of tick 28
-",
-    );
-    says(
-        22,
-        ("(passed 0)", "(passed 1)"),
-        "\
-line 2: (passed 1)
-  the frame lines are those that the entries give, so that this is not the plan's pass-over count
-  ./riscadru plan prints that count
-",
-    );
-    says_of(
-        &bus(1, &[(0, 1)]).all(0, 7),
-        "(delay 7)\n(passed 0)\n(start 0 (when) (at 0))\n(frame 0 (node 0) (bytes 1))\n",
-        22,
-        "line 4: (frame 0 (node 0) (bytes 1))\n  the entries give no frame\n",
     );
 }

@@ -20,7 +20,7 @@ fn listings_behind_s() {
 }
 
 #[test]
-fn readings_of_point_2() {
+fn readings_of_points_2_and_3() {
     for (what, lines, listing, wanted) in readings() {
         let answer = check_listing(&print(&lines), listing.as_bytes());
         assert_eq!(answer.unwrap_or(0), wanted, "{what}:\n{listing}");
@@ -44,7 +44,7 @@ fn inputs_of_the_program() {
 #[test]
 fn entries_are_read_in_the_order_in_which_they_stand() {
     let stated = read_listing(&s(), S_LISTING.as_bytes()).unwrap();
-    assert_eq!((stated.delay, stated.passed), (34, 0));
+    assert_eq!((stated.delay, &stated.passed[..]), (34, &[0, 0][..]));
     let ticks = |entries: &[Entry]| entries.iter().map(|e| e.tick).collect::<Vec<_>>();
     assert_eq!(ticks(&stated.entries), [0, 20, 12, 17, 32, 16, 28, 8]);
     let frames: Vec<_> = stated
@@ -98,8 +98,8 @@ fn the_listing_cut_anywhere_but_behind_a_line() {
         let whole_lines = bytes[..length].iter().filter(|&&b| b == b'\n').count();
         let wanted = match whole_lines {
             _ if length == 0 || bytes[length - 1] != b'\n' => 21,
-            0 | 1 => 21,
-            2..=9 => 14,
+            0..=2 => 21,
+            3..=10 => 14,
             _ => 22,
         };
         assert_eq!(answer, Some(wanted), "{length}");

@@ -51,6 +51,7 @@ fn skipping_ticks_changes_nothing() {
     });
 }
 
+/// Document 02: "Added up they give the old count", which is kept apart.
 #[test]
 fn the_pass_over_count_is_the_sum_over_the_nodes() {
     let mut plans_with_pass_overs = 0;

@@ -27,8 +27,8 @@ fn a2_a_delay_of_ten_digits_is_accepted() {
 #[test]
 fn a3_an_entry_of_a_row_that_the_plan_lacks_gives_no_line() {
     let table = [0, 0, 0, 0, 0, 1, 0, 0, 5, 0];
-    let expected = b"(delay 7)\n(passed 0)\n(start 0 (when) (at 0))\n";
-    assert_eq!(listing(&alone(), 7, 0, &table, &[]), expected);
+    let expected = b"(delay 7)\n(passed (node 0) 0)\n(start 0 (when) (at 0))\n";
+    assert_eq!(listing(&alone(), 7, &[0], &table, &[]), expected);
 }
 
 #[test]
@@ -58,10 +58,10 @@ fn a5_the_longest_lines_of_a_listing() {
     }
     assert_eq!(refuse_plan(&lines), None);
     let entry = [64 + 127, 63, 0, 999_999_999, 63];
-    let listing = listing(&lines, 0, 0, &entry, &[999_999_999, 7, 64]);
+    let listing = listing(&lines, 0, &[0, 0], &entry, &[999_999_999, 7, 64]);
     let listing = String::from_utf8(listing).unwrap();
     let lengths: Vec<usize> = listing.split_inclusive('\n').map(str::len).collect();
-    assert_eq!(lengths[2..], [104, 38]);
+    assert_eq!(lengths[1..], [20, 20, 104, 38]);
 }
 
 // B. Plan text and refusals 1 to 9.
@@ -170,6 +170,7 @@ fn c2_slots_after_the_last_end_count_too() {
     let lines = cases::broadcast_after_the_last_end();
     assert_eq!(planned(&lines).delay, 2);
     assert_eq!(planned(&lines).passed, 4);
+    assert_eq!(planned(&lines).passed_by_node, [4, 0]);
 }
 
 #[test]
@@ -292,6 +293,7 @@ fn c12_broadcasts_that_do_not_fit_are_passed_over() {
     assert_eq!(listed_from(&lines, "(tell"), told);
     assert_eq!(listed_from(&lines, "(send").len(), 4);
     assert_eq!(planned(&lines).passed, 8);
+    assert_eq!(planned(&lines).passed_by_node, [8, 0]);
 }
 
 #[test]

@@ -7,7 +7,7 @@ use lib.ListN.{length}
 use Prim.Native.Nat.{_+_}
 use borrow.Author.Tests.{lt-ltb, le-ltb}
 use Rattle.model.specs.Text.{decimal}
-use Rattle.listing_count.specs.Parts.{entries-text, frames-text, listing-of}
+use Rattle.listing_count.specs.Parts.{passed-text, entries-text, frames-text, listing-of}
 use Rattle.listing_count.proofs.Lengths.{listing-length, used-up}
 use Rattle.listing_count.proofs.Most.{Ten-digits, listing-most}
 use Rattle.listing_count.proofs.Enough.{ample-enough}
@@ -21,31 +21,30 @@ suffice-requires c κs = search needs
 returns : tie.Need-returns
 returns c =
     let k = c .before .before in
-    let a = c .before .before .before .before .args in
+    let a = k .before .before .before .args in
     let s = ample-enough (a .lent) (a .conditions) (length (a .table .now)) (length (a .frames .now)) (sym (c .before .suffice .ensures) ∙ c .if1 .taken) in
-    let table : Ten-digits (a .table .now) = λ i. omega (arith, k .before .shared-slice-known .given i) in
-    let frames : Ten-digits (a .frames .now) = λ i. omega (arith, k .shared-slice-known2 .given i) in
-    sym (le-ltb (a .lent) (length (listing-of (a .processes) (a .edges) (a .conditions) (a .delay) (a .passed) (a .table .now) (a .frames .now))) (omega (arith, s .1, listing-most (a .processes) (a .edges) (a .conditions) (a .delay) (a .passed) (a .table .now) (a .frames .now) (s .0) (omega arith) (omega arith) table frames)))
+    let counts : Ten-digits (a .passed .now) = λ i. omega (arith, k .before .before .shared-slice-known .given i) in
+    let table : Ten-digits (a .table .now) = λ i. omega (arith, k .before .shared-slice-known2 .given i) in
+    let frames : Ten-digits (a .frames .now) = λ i. omega (arith, k .shared-slice-known3 .given i) in
+    sym (le-ltb (a .lent) (length (listing-of (a .processes) (a .edges) (a .conditions) (a .delay) (a .passed .now) (a .table .now) (a .frames .now)))
+    (omega (arith, s .1, listing-most (a .processes) (a .edges) (a .conditions) (a .delay) (a .passed .now) (a .table .now) (a .frames .now) (s .0) (omega arith) (k .before .before .before .pre) counts table frames)))
 
 digits-requires : tie.Need-digits-requires
 digits-requires c κs = search needs
 
-add-totals : tie.Need-add-totals
-add-totals c = search needs
-
-digits-requires-2 : tie.Need-digits-requires-2
-digits-requires-2 c κs = search needs
-
-add-totals-2 : tie.Need-add-totals-2
-add-totals-2 c = search needs
+add-first : tie.Need-add-first
+add-first c = search needs
 
 returns-2 : tie.Need-returns-2
 returns-2 c =
     let a = c .before .before .before .before .before .before .before .args in
-    sym (lt-ltb (a .lent) (length (listing-of (a .processes) (a .edges) (a .conditions) (a .delay) (a .passed) (a .table .now) (a .frames .now))) (omega (arith, listing-length (a .processes) (a .edges) (a .conditions) (a .delay) (a .passed) (a .table .now) (a .frames .now), c .before .digits2 .ensures .0, c .before .before .digits .ensures .0)))
+    sym (lt-ltb (a .lent) (length (listing-of (a .processes) (a .edges) (a .conditions) (a .delay) (a .passed .now) (a .table .now) (a .frames .now))) (omega (arith, listing-length (a .processes) (a .edges) (a .conditions) (a .delay) (a .passed .now) (a .table .now) (a .frames .now), c .before .digits .ensures .0)))
 
-add-entries-room : tie.Need-add-entries-room
-add-entries-room c = search needs
+add-passed-room : tie.Need-add-passed-room
+add-passed-room c = search needs
+
+passed-room-requires : tie.Need-passed-room-requires
+passed-room-requires c κs = search needs
 
 entries-room-requires : tie.Need-entries-room-requires
 entries-room-requires c κs = search needs
@@ -55,11 +54,10 @@ frames-room-requires c κs = search needs
 
 returns-3 : tie.Need-returns-3
 returns-3 c =
-    let a = c .before .before .before .before .before .before .before .before .before .args in
+    let a = c .before .before .before .before .before .before .before .before .before .before .args in
     let d = c .before .before .before .before .digits .ensures .0 in
-    let q = c .before .before .before .digits2 .ensures .0 in
-    rw (c .frames-room .ensures, c .before .entries-room .ensures, d, q, listing-length (a .processes) (a .edges) (a .conditions) (a .delay) (a .passed) (a .table .now) (a .frames .now))
-    (used-up (a .lent) (19 + length (decimal (a .delay)) + length (decimal (a .passed))) (length (entries-text (a .processes) (a .edges) (a .conditions) (a .table .now))) (length (frames-text (a .frames .now))) (omega (arith, d, q)))
+    rw (c .frames-room .ensures, c .before .entries-room .ensures, c .before .before .passed-room .ensures, d, listing-length (a .processes) (a .edges) (a .conditions) (a .delay) (a .passed .now) (a .table .now) (a .frames .now))
+    (used-up (a .lent) (9 + length (decimal (a .delay))) (length (passed-text 0 (a .passed .now))) (length (entries-text (a .processes) (a .edges) (a .conditions) (a .table .now))) (length (frames-text (a .frames .now))) (omega (arith, d)))
 
 pub exceeds-spec : {M : Type 1} → statement M
 exceeds-spec =
@@ -68,11 +66,10 @@ exceeds-spec =
     suffice-requires
     returns
     digits-requires
-    add-totals
-    digits-requires-2
-    add-totals-2
+    add-first
     returns-2
-    add-entries-room
+    add-passed-room
+    passed-room-requires
     entries-room-requires
     frames-room-requires
     returns-3)

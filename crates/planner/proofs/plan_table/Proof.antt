@@ -18,15 +18,15 @@ enum-told : tie.Need-enum-told
 enum-told c = search needs
 
 plan-accepted-requires : tie.Need-plan-accepted-requires
-plan-accepted-requires c κs = sym (c .before .before .before .before .refuse .ensures) ∙ ap refusal-of (c .before .before .enum-told .given .1)
+plan-accepted-requires c κs = sym (c .before .before .before .before .before .refuse .ensures) ∙ ap refusal-of (c .before .before .before .enum-told .given .1)
 
 returns : tie.Need-returns
 returns c =
     let s = c .before .before .before .before .before .before in
     let a =
-    refused-answers (lines (s .args .p)) (s .args .table .now) (s .args .frames .now) _
-    (answer-refused (lines (s .args .p)) _ _ _ (sym (c .before .before .before .refuse .ensures) ∙ ap refusal-of (c .before .refusal .given .1))) refl refl in
-    (a .answer, (a .words, a .frame-words))
+    refused-answers (lines (s .args .p)) (s .args .table .now) (s .args .frames .now) (s .args .passed .now) _
+    (answer-refused (lines (s .args .p)) _ _ _ (sym (c .before .before .before .refuse .ensures) ∙ ap refusal-of (c .before .refusal .given .1))) refl refl refl in
+    (a .answer, (a .words, (a .frame-words, a .counts)))
 
 same-length : tie.Need-same-length
 same-length c = search needs
@@ -35,7 +35,9 @@ same-length-2 : tie.Need-same-length-2
 same-length-2 c = search needs
 
 returns-2 : tie.Need-returns-2
-returns-2 c = search needs
+returns-2 c =
+    let a = c .before .before .before .before .plan-accepted .ensures in
+    (a .answer, (a .words, (a .frame-words, a .counts)))
 
 pub plan-table-spec : {M : Type 1} → statement M
 plan-table-spec =

@@ -1,14 +1,14 @@
 -- `planner_table::count_pass_overs` meets its contract: the pass-overs of all combinations, node by node, are those of
--- the plan index's plan, and they add up to the pass-over count.
+-- the plan index's plan.
 -- Assumes nothing.
-use mathlib.Core.Path.{ap, _∙_, subst}
-use Prim.Native.Nat.{ℕ, _<_}
+use mathlib.Core.Path.{ap, _∙_}
+use Prim.Native.Nat.{ℕ}
 use lib.ListN.{length, length-replicate}
 use Rattle.plan.specs.Memory.{lines}
 use borrow.Author.Needs.{needs}
 use Rattle.plan_index.specs.Indexed.{Indexed}
 use Rattle.plan_index.proofs.IndexOfLines.{indexed-lines}
-use Rattle.planner_table.proofs.Framing.{pass-overs-sum}
+use Rattle.planner_table.proofs.CountsOfModel.{counts-front}
 use Rattle.planner_table.proofs.count_pass_overs.Statement.{statement}
 use Rattle.planner_table.proofs.count_pass_overs.Tie as tie
 
@@ -34,21 +34,21 @@ plan-combinations-requires c κs =
       ),
     )
 
-pass-overs-requires : tie.Need-pass-overs-requires
-pass-overs-requires c κs =
-    let i = c .before .before .before .before .before .before in
-    let s = i .before in
-    let o = indexed i in
-    let all = c .before .plan-combinations .ensures (lines (s .args .p)) (s .pre) o in
-    (o .few-slots, λ n l. all .passed-few n (subst (λ (k : ℕ). n < k) (o .slots-count) l))
+-- where the counts are stored, the plan index was made
+abbrev index-made : tie.After-store-counts-arg → tie.After-of-plan
+index-made c = c .before .before .before .before .before .before
+
+store-counts-requires : tie.Need-store-counts-requires
+store-counts-requires c κs = indexed (index-made c) .few-slots
 
 returns : tie.Need-returns
 returns c =
-    let i = c .before .before .before .before .before .before .before in
+    let i = index-made (c .before) in
     let s = i .before in
     let p = lines (s .args .p) in
     let o = indexed i in
-    c .pass-overs .ensures ∙ pass-overs-sum p _ _ _ _ _ (c .before .before .plan-combinations .ensures p (s .pre) o) _ (o .slots-count)
+    let all = c .before .before .plan-combinations .ensures p (s .pre) o in
+    counts-front p _ _ _ _ _ all _ (o .slots-count) (s .args .passed .now) (c .store-counts .ensures)
 
 pub count-pass-overs-spec : {M : Type 1} → statement M
 count-pass-overs-spec =
@@ -57,5 +57,5 @@ count-pass-overs-spec =
     of-plan-requires
     no-clocks-requires
     plan-combinations-requires
-    pass-overs-requires
+    store-counts-requires
     returns)

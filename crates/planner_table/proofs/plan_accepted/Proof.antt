@@ -32,12 +32,17 @@ plan-combinations-requires c κs =
       ),
     )
 
+-- where all combinations are planned, the plan index was made
+abbrev index-made : tie.After-plan-combinations → tie.After-of-plan
+index-made c = c .before .before .before .before .before
+
 write-all-requires : tie.Need-write-all-requires
 write-all-requires c κs =
-    let s = c .before .before .before .before .before .before .before .before .before .before .before .before .before in
+    let all = c .before .before .before .before .before .before in
+    let s = index-made all .before .before .before in
     let p = lines (s .args .p) in
-    let o = indexed (c .before .before .before .before .before .before .before .before .before .before) in
-    record { plan = p; passes = s .pre; indexed = o; all = c .before .before .before .before .before .plan-combinations .ensures p (s .pre) o }
+    let o = indexed (index-made all) in
+    record { plan = p; passes = s .pre; indexed = o; all = all .plan-combinations .ensures p (s .pre) o }
 
 same-length : tie.Need-same-length
 same-length c = search needs
@@ -47,10 +52,12 @@ same-length-2 c = search needs
 
 returns : tie.Need-returns
 returns c =
-    let s = c .before .before .before .before .before .before .before .before .before .before .before .before .before .before .before .before .before .before in
+    let written = c .before .before .before .before in
+    let all = written .before .before .before .before .before .before .before in
+    let s = index-made all .before .before .before in
     let p = lines (s .args .p) in
-    let o = indexed (c .before .before .before .before .before .before .before .before .before .before .before .before .before .before .before) in
-    c .before .before .before .before .write-all .ensures p (s .pre) o (c .before .before .before .before .before .before .before .before .before .before .plan-combinations .ensures p (s .pre) o)
+    let o = indexed (index-made all) in
+    written .write-all .ensures p (s .pre) o (all .plan-combinations .ensures p (s .pre) o)
 
 pub plan-accepted-spec : {M : Type 1} → statement M
 plan-accepted-spec =

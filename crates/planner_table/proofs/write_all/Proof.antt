@@ -1,8 +1,8 @@
 -- `planner_table::write_all` meets its contract: the entries and frames listed are the model's, and each is written
 -- only where all lent words suffice.
 -- Assumes nothing.
-use mathlib.Core.Path.{_≡_, refl, sym, _∙_, subst}
-use Prim.Native.Nat.{ℕ, _≤_, _<_}
+use mathlib.Core.Path.{_≡_, refl, sym}
+use Prim.Native.Nat.{ℕ, _≤_}
 use native.Mathlib.Omega.{arith}
 use lib.ListN.{length-replicate}
 use Rattle.model.specs.Plan.{Lines}
@@ -12,7 +12,8 @@ use Rattle.planner_combinations.specs.Combinations.{Planned-all}
 use Rattle.planner_table.specs.Planner.{Entered}
 use Rattle.planner_table.proofs.Answering.{answer-ten, answer-eleven, answer-made, refused-answers, made-answers}
 use Rattle.planner_table.proofs.Entering.{logs}
-use Rattle.planner_table.proofs.Framing.{laid-of, rows-of, Framed, framed, words-front, frames-front, pass-overs-sum}
+use Rattle.planner_table.proofs.Framing.{laid-of, rows-of, Framed, framed, words-front, frames-front}
+use Rattle.planner_table.proofs.CountsOfModel.{counts-front}
 use borrow.Author.Needs.{needs}
 use Rattle.planner_table.proofs.write_all.Statement.{statement}
 use Rattle.planner_table.proofs.write_all.Tie as tie
@@ -58,7 +59,7 @@ returns c p fine o a =
     let d = c .before in
     let s = d .before .before .before .before .before .before in
     let e = listed d p (fine, o, a) in
-    refused-answers p (s .args .table .now) (s .args .frames .now) 10 (answer-ten p _ _ fine (omega (arith, e .counted, c .if1 .taken))) refl refl
+    refused-answers p (s .args .table .now) (s .args .frames .now) (s .args .passed .now) 10 (answer-ten p _ _ fine (omega (arith, e .counted, c .if1 .taken))) refl refl refl
 
 collect-requires : tie.Need-collect-requires
 collect-requires c κs =
@@ -79,17 +80,23 @@ write-both-requires c κs =
       (f .few, f .long, f .small),
     )
 
-pass-overs-requires : tie.Need-pass-overs-requires
-pass-overs-requires c κs =
-    let s = c .before .before .before .before .before .before .before .before .before .before .before .before .before .before .before .before .before .before .before .before .before .before .before .before .before .before in
-    let i = s .pre in
-    (i .indexed .few-slots, λ n l. i .all .passed-few n (subst (λ (k : ℕ). n < k) (i .indexed .slots-count) l))
+-- where the counts are stored, the frames were collected
+abbrev gathered : tie.After-store-counts-arg → tie.After-collect
+gathered c = c .before .before .before .before .before .before .before .before .before .before .before .before
+
+abbrev begun : tie.After-collect → tie.Start
+begun d = d .before .before .before .before .before .before .before .before .before .before .before .before .before .before
+
+store-counts-requires : tie.Need-store-counts-requires
+store-counts-requires c κs = begun (gathered c) .pre .indexed .few-slots
 
 mul-t36 : tie.Need-mul-t36
-mul-t36 c = omega (arith, few (c .before .before .before .before .before .before .before .before .before .before .before .before .before .before .before .before .before .before .before .before .before))
+mul-t36 c = omega (arith, few (gathered (c .before) .before .before .before .before .before .before .before .before))
 
-mul-t37 : tie.Need-mul-t37
-mul-t37 c = let d = c .before .before .before .before .before .before .before .before .before .before .before .before .before in let s = d .before .before .before .before .before .before .before .before .before .before .before .before .before .before in omega (arith, collected d (s .pre .plan) (some s) .few)
+mul-t38 : tie.Need-mul-t38
+mul-t38 c =
+    let d = gathered (c .before) in
+    omega (arith, collected d (begun d .pre .plan) (some (begun d)) .few)
 
 same-length : tie.Need-same-length
 same-length c = search needs
@@ -99,15 +106,16 @@ same-length-2 c = search needs
 
 returns-2 : tie.Need-returns-2
 returns-2 c p fine o a =
-    let d = c .before .before .before .before .before .before .before .before .before .before .before .before .before in
-    let s = d .before .before .before .before .before .before .before .before .before .before .before .before .before .before in
+    let d = gathered (c .before) in
+    let s = begun d in
     let e = listed (d .before .before .before .before .before .before .before .before) p (fine, o, a) in
     let f = collected d p (fine, o, a) in
     let w = c .before .before .before .before .before .before .before .write-both .ensures .0 (c .before .before .if2 .taken) in
-    made-answers p (s .args .table .now) (s .args .frames .now)
+    made-answers p (s .args .table .now) (s .args .frames .now) (s .args .passed .now)
     (answer-made p _ _ fine (omega (arith, e .counted, d .before .before .before .before .before .before .before .if1 .left)) (omega (arith, f .counted, w .0)))
-    (sym (e .counted)) (sym (f .counted)) (a .delay) (c .pass-overs .ensures ∙ pass-overs-sum p _ _ _ _ _ a _ (o .slots-count))
+    (sym (e .counted)) (sym (f .counted)) (a .delay)
     (words-front (s .args .t1) _ _ _ p o e (s .args .table .now) (w .1)) (frames-front p _ _ f (s .args .frames .now) (w .2))
+    (counts-front p _ _ _ _ _ a _ (o .slots-count) (s .args .passed .now) (c .store-counts .ensures))
 
 same-length-3 : tie.Need-same-length-3
 same-length-3 c = search needs
@@ -122,8 +130,8 @@ returns-3 c p fine o a =
     let e = listed (d .before .before .before .before .before .before .before .before) p (fine, o, a) in
     let f = collected d p (fine, o, a) in
     let w = c .before .before .before .before .before .write-both .ensures .1 (c .if2 .left) in
-    refused-answers p (s .args .table .now) (s .args .frames .now) 11
-    (answer-eleven p _ _ fine (omega (arith, e .counted, d .before .before .before .before .before .before .before .if1 .left)) (omega (arith, f .counted, w .0))) (w .1) (w .2)
+    refused-answers p (s .args .table .now) (s .args .frames .now) (s .args .passed .now) 11
+    (answer-eleven p _ _ fine (omega (arith, e .counted, d .before .before .before .before .before .before .before .if1 .left)) (omega (arith, f .counted, w .0))) (w .1) (w .2) refl
 
 pub write-all-spec : {M : Type 1} → statement M
 write-all-spec =
@@ -135,9 +143,9 @@ write-all-spec =
     returns
     collect-requires
     write-both-requires
-    pass-overs-requires
+    store-counts-requires
     mul-t36
-    mul-t37
+    mul-t38
     same-length
     same-length-2
     returns-2

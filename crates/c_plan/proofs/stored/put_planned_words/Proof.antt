@@ -1,12 +1,14 @@
 -- `c_plan::put_planned_words` meets its contract, by those of the words put into bytes.
 -- Assumes nothing.
-use mathlib.Core.Path.{ap, _∙_}
+use mathlib.Core.Path.{sym}
 use mathlib.Core.List.{List}
-use Prim.Native.Nat.{ℕ}
-use lib.ListN.{length, take}
+use Prim.Native.Nat.{ℕ, _≤_, _+_}
+use native.Mathlib.Omega.{arith}
+use lib.ListN.{length, replicate, length-replicate}
+use lib.Seq.{length-take-le}
 use borrow.Author.Needs.{needs}
-use Rattle.lists.specs.Front.{front}
-use Rattle.c_words.specs.Bytes.{bytes-of}
+use Rattle.limits.specs.Limits.{TOTALS}
+use Rattle.c_plan.proofs.TotalsOfWords.{totals-long, totals-put}
 use Rattle.c_plan.proofs.stored.put_planned_words.Statement.{statement}
 use Rattle.c_plan.proofs.stored.put_planned_words.Tie as tie
 
@@ -16,11 +18,29 @@ put-words-requires c κs = search needs
 put-words-requires-2 : tie.Need-put-words-requires-2
 put-words-requires-2 c κs = search needs
 
-totals-of-requires : tie.Need-totals-of-requires
-totals-of-requires c κs = search needs
+store-totals-requires : tie.Need-store-totals-requires
+store-totals-requires c κs = search needs
+
+add-count : tie.Need-add-count
+add-count c = search needs
+
+abbrev begun : tie.After-store-totals → tie.Start
+begun c = c .before .before .before .before .before .before .before .before .before .before .before .before .before .before .before .before
+
+-- the totals are no more words than the array has
+abbrev blank : List ℕ
+blank = replicate TOTALS 0
+
+room : (c : tie.After-store-totals) → 3 + length (begun c .args .passed .now) ≤ length blank
+room c = let few = begun c .pre .1 .1 in omega (arith, few, length-replicate {A = ℕ} TOTALS 0)
+
+array-share-prefix-numbers : tie.Need-array-share-prefix-numbers
+array-share-prefix-numbers c =
+    let long = totals-long _ _ _ (begun c .args .passed .now) blank (room c) (c .store-totals .ensures) in
+    omega (arith, long, room c)
 
 slice-aggregate-put-some : tie.Need-slice-aggregate-put-some
-slice-aggregate-put-some c = search needs
+slice-aggregate-put-some c = sym (length-take-le _ _ (array-share-prefix-numbers (c .before)))
 
 put-some-requires : tie.Need-put-some-requires
 put-some-requires c κs = search needs
@@ -37,14 +57,14 @@ same-length-3 c = search needs
 returns : tie.Need-returns
 returns c =
     let some = c .before .before in
-    let four = some .before .before .before in
-    let frames = four .before .before .before in
+    let stored = some .before .before .before in
+    let frames = stored .before .before .before .before in
     let table = frames .before .before .before .before in
-    let lent = table .before .before .before .before .before .before .before .args .totals .now in
+    let a = begun stored .args in
     record {
       table-bytes = table .put-words .ensures;
       frame-bytes = frames .put-words2 .ensures;
-      total-bytes = some .put-some .ensures ∙ ap (λ (ws : List ℕ). front (take (length lent) (bytes-of ws)) lent) (four .totals-of .ensures);
+      total-bytes = totals-put _ _ _ (a .passed .now) blank (room stored) (stored .store-totals .ensures) (a .totals .now) (some .put-some .ensures);
     }
 
 pub put-planned-words-spec : {M : Type 1} → statement M
@@ -53,7 +73,9 @@ put-planned-words-spec =
     (tie.spec
     put-words-requires
     put-words-requires-2
-    totals-of-requires
+    store-totals-requires
+    add-count
+    array-share-prefix-numbers
     slice-aggregate-put-some
     put-some-requires
     same-length

@@ -1,6 +1,7 @@
 -- `checker_listing::check_stated` meets its contract: a refusal of the table, or else 22 or nothing.
 -- Assumes nothing.
 use mathlib.Core.Path.{sym, _∙_}
+use lib.ListN.{take}
 use Rattle.model.specs.Checking.{table-refusal, Sound}
 use Rattle.plan.specs.Memory.{lines}
 use Rattle.checker_table.proofs.AcceptedSound.{accepted-nothing, refused-number}
@@ -26,14 +27,14 @@ sound c =
     (accepted-nothing (table-refusal (lines (s .args .p)) (s .args .table .now) (s .args .delay)) .0 (sym (c .before .before .check-words .ensures) ∙ c .enum-told .given .1))
 
 check-sound-requires : tie.Need-check-sound-requires
-check-sound-requires c κs = let s = c .before .before .before .before .before in ((s .args .delay, sound c), (s .pre .1 .1, s .pre .1 .2))
+check-sound-requires c κs = let s = c .before .before .before .before .before in ((s .args .delay, sound c), (s .pre .1 .1, s .pre .1 .2, s .pre .1 .3))
 
 returns : tie.Need-returns
 returns c =
     let w = c .before .before .before in
     let s = w .before .before .before in
     let p = lines (s .args .p) in
-    answer-table p (s .args .table .now) (s .args .frames .now) (s .args .delay) (s .args .passed) (s .pre .1 .0) (s .pre .1 .1) _
+    answer-table p (s .args .table .now) (s .args .frames .now) (s .args .delay) (take (s .args .p .slots) (s .args .passed .now)) (s .pre .1 .0) (s .pre .1 .1) _
     (refused-number (table-refusal p (s .args .table .now) (s .args .delay)) _ .0 (sym (w .check-words .ensures) ∙ c .before .checked .given .1))
 
 returns-2 : tie.Need-returns-2

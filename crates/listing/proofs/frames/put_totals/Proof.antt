@@ -1,4 +1,4 @@
--- `listing::put_totals` meets its contract: the labelled numbers are stored, then the end of the line.
+-- `listing::put_totals` meets its contract: the line of the delay is stored, then the passed lines.
 -- Assumes nothing.
 use native.Mathlib.Omega.{arith}
 use lib.ListN.{length-append}
@@ -15,31 +15,28 @@ slice-aggregate-put-labelled c = search needs
 
 put-labelled-requires : tie.Need-put-labelled-requires
 put-labelled-requires c κs =
-    let a = c .before .before .before in
-    fits-less (a .pre) (simp length-append (omega (arith, totals-length (a .args .delay) (a .args .passed))))
-
-slice-aggregate-put-labelled-2 : tie.Need-slice-aggregate-put-labelled-2
-slice-aggregate-put-labelled-2 c = search needs
-
-put-labelled-requires-2 : tie.Need-put-labelled-requires-2
-put-labelled-requires-2 c κs =
-    let a = c .before .before .before .before .before .before .before .before in
-    fits-behind (c .before .before .before .before .put-labelled .ensures) (a .pre) (simp length-append (omega (arith, totals-length (a .args .delay) (a .args .passed))))
+    let a = c .before .before .before .before in
+    fits-less (a .pre .0) (simp length-append (omega (arith, totals-length (a .args .delay) (a .args .passed .now))))
 
 slice-aggregate-put-word : tie.Need-slice-aggregate-put-word
 slice-aggregate-put-word c = search needs
 
 put-word-requires : tie.Need-put-word-requires
 put-word-requires c κs =
+    let a = c .before .before .before .before .before .before .before .before .before in
+    fits-behind (c .before .before .before .before .put-labelled .ensures) (a .pre .0) (simp length-append (omega (arith, totals-length (a .args .delay) (a .args .passed .now))))
+
+put-counts-requires : tie.Need-put-counts-requires
+put-counts-requires c κs =
     let a = c .before .before .before .before .before .before .before .before .before .before .before .before .before in
-    fits-behind (put-then (c .before .before .before .before .before .before .before .before .before .put-labelled .ensures) (c .before .before .before .before .put-labelled2 .ensures)) (a .pre) (simp length-append (omega (arith, totals-length (a .args .delay) (a .args .passed))))
+    (fits-behind (put-then (c .before .before .before .before .before .before .before .before .put-labelled .ensures) (c .before .before .before .put-word .ensures)) (a .pre .0) (simp length-append (omega (arith, totals-length (a .args .delay) (a .args .passed .now)))), a .pre .1)
 
 same-length : tie.Need-same-length
 same-length c = search needs
 
 returns : tie.Need-returns
 unfolding totals-of
-returns c = put-then (c .before .before .before .before .before .before .before .before .before .before .before .before .put-labelled .ensures) (put-then (c .before .before .before .before .before .before .before .put-labelled2 .ensures) (c .before .before .put-word .ensures))
+returns c = put-then (c .before .before .before .before .before .before .before .before .before .before .before .put-labelled .ensures) (put-then (c .before .before .before .before .before .before .put-word .ensures) (c .before .before .put-counts .ensures))
 
 pub put-totals-spec : {M : Type 1} → statement M
 put-totals-spec =
@@ -47,9 +44,8 @@ put-totals-spec =
     (tie.spec
     slice-aggregate-put-labelled
     put-labelled-requires
-    slice-aggregate-put-labelled-2
-    put-labelled-requires-2
     slice-aggregate-put-word
     put-word-requires
+    put-counts-requires
     same-length
     returns)

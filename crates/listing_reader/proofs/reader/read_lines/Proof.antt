@@ -3,12 +3,12 @@
 use borrow.Author.Needs.{needs}
 use mathlib.Core.Path.{refl, subst}
 use native.Mathlib.Omega.{arith}
-use lib.ListN.{drop}
 use Rattle.model.specs.Text.{text}
 use Rattle.text_grammar.specs.Parse.{closed-at}
 use Rattle.text_scanner.specs.Place.{found, Scanned, number}
 use Rattle.text_scanner.proofs.AnswerCases.{told}
-use Rattle.listing_reader.specs.Runs.{Entries-read, Frames-read}
+use Rattle.listing_reader.specs.Runs.{Passed-read, Entries-read, Frames-read}
+use Rattle.listing_reader.specs.declared.passed.PassedAt.the-variants as Passed
 use Rattle.listing_reader.specs.declared.entries.EntriesAt.the-variants as Entries
 use Rattle.listing_reader.specs.declared.frames.FramesAt.the-variants as Frames
 use Rattle.listing_reader.proofs.PartsRead.{entries-few, frames-few, no-delay, no-passed, entries-formless, frames-formless, more-follows, whole-listing}
@@ -19,10 +19,10 @@ use Rattle.listing_reader.proofs.reader.read_lines.Tie as tie
 abbrev begun : tie.After-delay → tie.Start
 begun c = c .before .before .before .before .before .before
 
-abbrev to-delay : tie.After-passed → tie.After-delay
-to-delay c = c .before .before .before .before .before .before
+abbrev to-delay : tie.After-j → tie.After-delay
+to-delay c = c .before .before .before .before .before
 
-abbrev to-passed : tie.After-entries → tie.After-passed
+abbrev to-passed : tie.After-entries → tie.After-j
 to-passed c = c .before .before .before .before .before
 
 abbrev to-entries : tie.After-used → tie.After-entries
@@ -32,11 +32,11 @@ delay-line : (c : tie.After-delay) → Scanned (begun c .args .text .now) (found
     (closed-at (text "(delay ") (text "\n") (begun c .args .text .now))
 delay-line c = told number (c .delay .given .1) (c .before .before .closed .ensures)
 
-passed-line : (c : tie.After-passed) → Scanned (begun (to-delay c) .args .text .now) (found (c .passed .given .0 .0) (c .passed .given .0 .1 .0))
-    (closed-at (text "(passed ") (text "\n") (drop (to-delay c .delay .given .0 .1 .0) (begun (to-delay c) .args .text .now)))
-passed-line c = told number (c .passed .given .1) (c .before .before .closed2 .ensures)
+passed-found : (c : tie.After-j) → Passed-read (begun (to-delay c) .args .text .now) (to-delay c .delay .given .0 .1 .0) (begun (to-delay c) .args .counts .slots)
+    (begun (to-delay c) .args .passed .now) (c .before .before .read-passed .last .1 .1 .1 .0) (Passed.Got (c .j .given .0 .0))
+passed-found c = subst (Passed-read _ _ _ _ _) (c .j .given .1) (c .before .before .read-passed .ensures)
 
-entries-found : (c : tie.After-entries) → Entries-read (begun (to-delay (to-passed c)) .args .text .now) (to-passed c .passed .given .0 .1 .0)
+entries-found : (c : tie.After-entries) → Entries-read (begun (to-delay (to-passed c)) .args .text .now) (to-passed c .j .given .0 .0)
     (begun (to-delay (to-passed c)) .args .counts) (begun (to-delay (to-passed c)) .args .table .now) (c .before .before .read-entries .last .1 .1 .1 .0)
     (Entries.Got (c .entries .given .0 .0) (c .entries .given .0 .1 .0))
 entries-found c = subst (Entries-read _ _ _ _ _) (c .entries .given .1) (c .before .before .read-entries .ensures)
@@ -64,31 +64,28 @@ enum-told c = search needs
 returns : tie.Need-returns
 returns c = (refl, no-delay (c .before .before .before .before .before .before .args .counts) (told number (c .enum-told .given .1) (c .before .before .closed .ensures)))
 
-slice-aggregate-closed-3 : tie.Need-slice-aggregate-closed-3
-slice-aggregate-closed-3 c = search needs
+read-passed-requires : tie.Need-read-passed-requires
+read-passed-requires c κs =
+    let d = c .before .before in
+    let s = begun d in
+    (delay-line d .within, s .pre .0 .slots, s .pre .3)
 
-slice-aggregate-closed-4 : tie.Need-slice-aggregate-closed-4
-slice-aggregate-closed-4 c = search needs
-
-closed-requires-2 : tie.Need-closed-requires-2
-closed-requires-2 c κs = delay-line (c .before .before .before) .within
-
-enum-known-passed : tie.Need-enum-known-passed
-enum-known-passed c = search needs
+enum-known-j : tie.Need-enum-known-j
+enum-known-j c = search needs
 
 enum-told-2 : tie.Need-enum-told-2
 enum-told-2 c = search needs
 
 returns-2 : tie.Need-returns-2
 returns-2 c =
-    let d = c .before .before .before .before .before .before in
-    (refl, no-passed (begun d .args .counts) (delay-line d) (told number (c .enum-told2 .given .1) (c .before .before .closed2 .ensures)))
+    let d = c .before .before .before .before .before in
+    (refl, no-passed (begun d .args .counts) (delay-line d) (subst (Passed-read _ _ _ _ _) (c .enum-told2 .given .1) (c .before .before .read-passed .ensures)))
 
 read-entries-requires : tie.Need-read-entries-requires
 read-entries-requires c κs =
     let q = c .before .before in
     let s = begun (to-delay q) in
-    (passed-line q .within, s .pre .0, s .pre .1)
+    (passed-found q .within, s .pre .0, s .pre .1)
 
 enum-known-entries : tie.Need-enum-known-entries
 enum-known-entries c = search needs
@@ -100,7 +97,7 @@ returns-3 : tie.Need-returns-3
 returns-3 c =
     let q = c .before .before .before .before .before in
     let d = to-delay q in
-    (refl, entries-formless (begun d .args .counts) (delay-line d) (passed-line q) (subst (Entries-read _ _ _ _ _) (c .enum-told3 .given .1) (c .before .before .read-entries .ensures)))
+    (refl, entries-formless (begun d .args .counts) (delay-line d) (passed-found q) (subst (Entries-read _ _ _ _ _) (c .enum-told3 .given .1) (c .before .before .read-entries .ensures)))
 
 read-frames-requires : tie.Need-read-frames-requires
 read-frames-requires c κs =
@@ -118,7 +115,7 @@ returns-4 c =
     let e = c .before .before .before .before .before in
     let q = to-passed e in
     let d = to-delay q in
-    (refl, frames-formless (begun d .args .counts) (delay-line d) (passed-line q) (entries-found e) (subst (Frames-read _ _ _ _) (c .enum-told4 .given .1) (c .before .before .read-frames .ensures)))
+    (refl, frames-formless (begun d .args .counts) (delay-line d) (passed-found q) (entries-found e) (subst (Frames-read _ _ _ _) (c .enum-told4 .given .1) (c .before .before .read-frames .ensures)))
 
 returns-5 : tie.Need-returns-5
 returns-5 c =
@@ -126,15 +123,15 @@ returns-5 c =
     let e = to-entries u in
     let q = to-passed e in
     let d = to-delay q in
-    (refl, more-follows (begun d .args .counts) (delay-line d) (passed-line q) (entries-found e) (frames-found u) (omega (arith, c .if1 .taken)))
+    (refl, more-follows (begun d .args .counts) (delay-line d) (passed-found q) (entries-found e) (frames-found u) (omega (arith, c .if1 .taken)))
 
-mul-t31 : tie.Need-mul-t31
-mul-t31 c =
+mul-t26 : tie.Need-mul-t26
+mul-t26 c =
     let f = entries-found (to-entries (c .before .before)) in
     search (needs, f .all, entries-few (f .lines) (f .form))
 
-mul-t33 : tie.Need-mul-t33
-mul-t33 c =
+mul-t28 : tie.Need-mul-t28
+mul-t28 c =
     let f = frames-found (c .before .before) in
     search (needs, f .all, frames-few (f .lines) (f .form))
 
@@ -144,7 +141,7 @@ returns-6 c =
     let e = to-entries u in
     let q = to-passed e in
     let d = to-delay q in
-    whole-listing (begun d .args .counts) (delay-line d) (passed-line q) (entries-found e) (frames-found u) (omega (arith, c .if1 .left))
+    whole-listing (begun d .args .counts) (delay-line d) (passed-found q) (entries-found e) (frames-found u) (omega (arith, c .if1 .left))
 
 pub read-lines-spec : {M : Type 1} → statement M
 read-lines-spec =
@@ -156,10 +153,8 @@ read-lines-spec =
     enum-known-delay
     enum-told
     returns
-    slice-aggregate-closed-3
-    slice-aggregate-closed-4
-    closed-requires-2
-    enum-known-passed
+    read-passed-requires
+    enum-known-j
     enum-told-2
     returns-2
     read-entries-requires
@@ -171,6 +166,6 @@ read-lines-spec =
     enum-told-4
     returns-4
     returns-5
-    mul-t31
-    mul-t33
+    mul-t26
+    mul-t28
     returns-6)

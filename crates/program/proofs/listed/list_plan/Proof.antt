@@ -18,6 +18,9 @@ enum-known-refusal c = search needs
 enum-told : tie.Need-enum-told
 enum-told c = search needs
 
+no-counts-requires : tie.Need-no-counts-requires
+no-counts-requires c κs = search needs
+
 slice-aggregate-list-planned : tie.Need-slice-aggregate-list-planned
 slice-aggregate-list-planned c = search needs
 
@@ -26,8 +29,8 @@ slice-aggregate-list-planned-2 c = search needs
 
 list-planned-requires : tie.Need-list-planned-requires
 list-planned-requires c κs =
-    let r = c .before .before .before .before .before .before .read-plan in
-    (accepted _ (r .result) (r .ensures .0) (c .before .before .before .before .enum-told .given .1), (length-replicate {A = ℕ} 15000 1, length-replicate {A = ℕ} 9000 1))
+    let r = c .before .before .before .before .before .before .before .before .read-plan in
+    (accepted _ (r .result) (r .ensures .0) (c .before .before .before .before .before .before .enum-told .given .1), (length-replicate {A = ℕ} 15000 1, length-replicate {A = ℕ} 9000 1))
 
 returns : tie.Need-returns
 returns c =
@@ -40,8 +43,8 @@ same-length c = search needs
 returns-2 : tie.Need-returns-2
 returns-2 c =
     let w = c .before .before .before .before .list-planned in
-    let r = c .before .before .before .before .before .before .before .before .before .before .before .read-plan in
-    read-lists _ _ _ (r .result) (r .ensures .0) _ (c .before .before .before .before .before .before .before .before .before .enum-told .given .1) (w .ensures .0) (w .ensures .1)
+    let r = c .before .before .before .before .before .before .before .before .before .before .before .before .before .read-plan in
+    read-lists _ _ _ (r .result) (r .ensures .0) _ (c .before .before .before .before .before .before .before .before .before .before .before .enum-told .given .1) (w .ensures .0) (w .ensures .1)
 
 pub list-plan-spec : {M : Type 1} → statement M
 list-plan-spec =
@@ -50,6 +53,7 @@ list-plan-spec =
     read-plan-requires
     enum-known-refusal
     enum-told
+    no-counts-requires
     slice-aggregate-list-planned
     slice-aggregate-list-planned-2
     list-planned-requires

@@ -12,8 +12,7 @@ refused-frames-requires : tie.Need-refused-frames-requires
 refused-frames-requires c κs = search needs
 
 returns : tie.Need-returns
-returns c =
-    (c .refused-frames .ensures, many-unchanged _ _ _ _ (c .before .if1 .taken))
+returns c = (c .refused-frames .ensures, many-unchanged _ _ _ _ (c .before .before .if1 .taken))
 
 write-listing-requires : tie.Need-write-listing-requires
 write-listing-requires c κs = search needs
@@ -25,7 +24,7 @@ returns-2 : tie.Need-returns-2
 returns-2 c =
     let w = c .before .before .write-listing in
     let a = c .before .before .before .before .before .before .before .before .args in
-    few-listed (a .out .now) _ (words-listing (lines (a .p)) (a .delay) (a .passed) (a .table .now) (a .frames .now)) (length (a .frames .now)) _ (c .before .before .before .before .if1 .left) (w .ensures .0) (w .ensures .1)
+    few-listed (a .out .now) _ (words-listing (lines (a .p)) (a .delay) (a .passed .now) (a .table .now) (a .frames .now)) (length (a .frames .now)) _ (c .before .before .before .before .if1 .left) (w .ensures .0) (w .ensures .1)
 
 pub list-words-spec : {M : Type 1} → statement M
 list-words-spec =
