@@ -19,4 +19,3 @@ pub use zeros::no_counts;
 pub use zeros::no_edges;
 pub use zeros::no_processes;
 pub use zeros::no_rows;
-pub use zeros::none_noted;

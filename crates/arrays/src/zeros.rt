@@ -1,12 +1,11 @@
 // Arrays of zeros, by what they are for.
 use limits::EDGES;
 use limits::NODES;
-use limits::NOTED;
 use limits::PROCESSES;
 use limits::ROWS;
 ghost use mathlib.Core.Path.{_≡_};
 ghost use lib.ListN.{replicate};
-ghost use Rattle.limits.specs.Limits.{NODES, PROCESSES, EDGES, ROWS, NOTED};
+ghost use Rattle.limits.specs.Limits.{NODES, PROCESSES, EDGES, ROWS};
 
 // A zero for each process.
 pub fn no_processes() -> [u32; PROCESSES]
@@ -34,11 +33,4 @@ pub fn no_counts() -> [u32; NODES]
     ensures { λ r. ⌜ r ≡ replicate NODES 0 ⌝ }
 {
     [0u32; NODES]
-}
-
-// A zero for each condition and node.
-pub fn none_noted() -> [u32; NOTED]
-    ensures { λ r. ⌜ r ≡ replicate NOTED 0 ⌝ }
-{
-    [0u32; NOTED]
 }

@@ -7,12 +7,7 @@ use Rattle.checker_rows.proofs.MetBounds.{met-row}
 use Rattle.checker_frames.specs.SharedBytes.{Sized}
 
 module _ (m : MetPlan) where
-  open MetPlan m using (index as b, indexed as w, comes, place)
+  open MetPlan m using (comes, place)
 
-  pub sized : Sized comes (b .sender) (b .size) place
-  sized =
-      record {
-        nodes = w .sender-small;
-        sizes = w .size-most;
-        places = λ r n. let k = met-row m r (placed-is comes r n) in omega (arith, k .2);
-      }
+  pub sized : Sized comes place
+  sized = record { places = λ r n. let k = met-row m r (placed-is comes r n) in omega (arith, k .2) }

@@ -5,9 +5,11 @@
 use mathlib.Core.Path.{_≡_}
 use mathlib.Core.Bool.{Bool, not, _&&_, _||_}
 use mathlib.Core.List.{List}
-use Prim.Native.Nat.{ℕ, _+_, _<_, _≤_}
+use Prim.Native.Nat.{ℕ, _+_, _<_}
 use lib.Dec.{eqb, leb, ltb}
 use lib.ListN.{getD}
+use Rattle.plan_index.specs.declared.PlanIndex.{PlanIndex}
+use Rattle.log_rows.specs.Rows.{Rows}
 use Rattle.log_queries.specs.Reading.{placed-by}
 use Rattle.checker_rows.specs.MetArrays.{some, start-by}
 
@@ -29,8 +31,20 @@ shares-by processes rooms sender size place comes span i =
 unfoldable pub share-by : ℕ → ℕ → List ℕ → List ℕ → List ℕ → List ℕ → List ℕ → List ℕ → Bool
 share-by processes rows rooms sender size place comes span = some (shares-by processes rooms sender size place comes span) processes rows
 
--- the sender of a row is a node, and a met row's bytes lie where a frame can be
-pub record Sized (comes sender size place : List ℕ) : Type 0 where
-  pub nodes : (r : ℕ) → getD sender r 0 < 8
-  pub sizes : (r : ℕ) → getD size r 0 ≤ 64
+-- the same by a plan index and the rows of a combination
+module _ (b : PlanIndex) (s : Rows) where
+  abbrev pub row-passes : ℕ → Bool
+  row-passes = passes-by (b .rooms) (b .sender) (b .size) (s .place)
+
+  abbrev pub rows-lie : ℕ → ℕ → Bool
+  rows-lie = lie-by (b .sender) (b .size) (s .place) (s .comes) (b .span)
+
+  abbrev pub row-shares : ℕ → Bool
+  row-shares = shares-by (b .processes) (b .rooms) (b .sender) (b .size) (s .place) (s .comes) (b .span)
+
+  abbrev pub some-share : Bool
+  some-share = share-by (b .processes) (b .rows) (b .rooms) (b .sender) (b .size) (s .place) (s .comes) (b .span)
+
+-- a met row begins where a frame can be
+pub record Sized (comes place : List ℕ) : Type 0 where
   pub places : (r : ℕ) → (getD comes r 0 ≡ 0 → ⊥) → getD place r 0 < 64

@@ -13,13 +13,13 @@ use borrow.Author.Tests.{ltb-true, ltb-false, le-ltb}
 use Rattle.lists.specs.Lists.{if_then_else_, any}
 use Rattle.lists.proofs.Tests.{two}
 use Rattle.lists.proofs.Members.{any-same}
-use Rattle.model.specs.Plan.{Lines, When, always, on, edge, decider, into}
+use Rattle.model.specs.Plan.{When, always, on, edge, decider, into}
 use Rattle.model.specs.Activity.{Heard, is, meets, all-heard, may-run, active, carries}
 use Rattle.model.specs.Bus.{rows, sender}
 use Rattle.model.specs.Log.{full-ticks, over, known, delivered}
 use Rattle.model.specs.Checking.{missing, placed-early, too-early}
 use Rattle.laws.proofs.Active.{heard-all, into-in}
-use Rattle.log_queries.specs.Reading.{bit, came-by, placed-by, edges-into}
+use Rattle.log_queries.specs.Reading.{came-by, placed-by, edges-into}
 use Rattle.log_queries.specs.Holding.{met-in, Holds, Runs}
 use Rattle.log_queries.proofs.ReadyOfModel.{delivered-link}
 use Rattle.checker_rows.specs.MetArrays.{start-by}
@@ -27,15 +27,6 @@ use Rattle.checker_rows.proofs.LogRows.{some-same, and-same, any-rows}
 use Rattle.checker_rows.proofs.MetPlan.{MetPlan, P#, T#, log, at, conditionrow-same, over-same}
 use Rattle.checker_rows.proofs.MetBounds.{log-row, start-tick}
 use Rattle.checker_inputs.specs.Inputs.{misses-by, sends-by, row-early-by, too-early-by}
-
--- an array that has 1 where a process is active and else 0 says what may run where everything is heard
-pub active-runs : (p : Lines) (c : List Bool) (run : List ℕ) → ((i : ℕ) → getD run i 0 ≡ bit (active p c i)) → Runs run (may-run p (all-heard c))
-unfolding active
-active-runs p c run h i = ap (λ (n : ℕ). eqb n 0) (h i) ∙ at (getD (may-run p (all-heard c)) i false)
-  where
-    at : (z : Bool) → eqb (bit z) 0 ≡ not z
-    at true = refl
-    at false = refl
 
 module _ (m : MetPlan) where
   open MetPlan m using (plan as p, index as b, indexed as w, entries as es, combination as c, comes, place)

@@ -1,3 +1,2 @@
--- SenderBound (how large a sender's number is), InputsOfModel (what `too_early` answers is what refusal 16 says).
-pub mod SenderBound
+-- InputsOfModel (what `too_early` answers is what refusal 16 says).
 pub mod InputsOfModel

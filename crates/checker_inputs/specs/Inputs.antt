@@ -8,6 +8,8 @@ use Prim.Native.Nat.{ℕ, _-_}
 use lib.Dec.{eqb, ltb}
 use lib.ListN.{getD}
 use Rattle.lists.specs.Lists.{if_then_else_, any}
+use Rattle.plan_index.specs.declared.PlanIndex.{PlanIndex}
+use Rattle.log_rows.specs.Rows.{Rows}
 use Rattle.log_queries.specs.Reading.{came-by, placed-by, edges-into, delivered-by}
 use Rattle.checker_rows.specs.MetArrays.{some, start-by}
 
@@ -31,3 +33,18 @@ module _ (processes conditionrow : ℕ) (remote from knownby unmet decider first
 
   unfoldable pub too-early-by : ℕ → Bool
   too-early-by rows = some row-early-by 0 rows
+
+-- the same by a plan index and the rows of a combination
+abbrev pub sender-in : PlanIndex → ℕ → ℕ
+sender-in b = sends-by (b .from) (b .decider) (b .processes) (b .conditionrow)
+
+module _ (b : PlanIndex) (s : Rows) where
+  abbrev pub edge-misses : ℕ → ℕ → Bool
+  edge-misses = misses-by (b .processes) (b .remote) (b .from) (b .knownby) (s .unmet) (s .comes) (s .run)
+
+  abbrev pub row-early-in : ℕ → Bool
+  row-early-in = row-early-by (b .processes) (b .conditionrow) (b .remote) (b .from) (b .knownby) (s .unmet) (b .decider) (b .intofirst) (b .into) (s .run) (s .comes) (b .span)
+
+  abbrev pub some-early : Bool
+  some-early =
+      too-early-by (b .processes) (b .conditionrow) (b .remote) (b .from) (b .knownby) (s .unmet) (b .decider) (b .intofirst) (b .into) (s .run) (s .comes) (b .span) (b .rows)

@@ -1,129 +1,71 @@
-// Refusal 16 of one combination, read off arrays by row. `comes` has 0 where no entry of the row is met, else the met
-// entry's tick plus what the row lasts, plus 1; `span` has what the row lasts, so that the row starts at the clock
-// comes - span, which is its tick plus 1. specs/Inputs.antt of undelivered says what each function answers in the words
-// of the arrays.
+// Refusal 16 of one combination, read off what its met entries leave by row. A row's `comes` is 0 where no entry of the
+// row is met, else the met entry's tick plus what the row lasts, plus 1, so that the row starts at the clock
+// comes - span, which is its tick plus 1; `run` is 0 where a process is not active in the combination.
+// specs/Inputs.antt says what each function answers in the words of the arrays.
 use crate::undelivered::misses_some;
-use limits::CONDITIONS;
-use limits::EDGES;
-use limits::PROCESSES;
-use limits::ROWS;
-use limits::STARTS;
 use log_queries::came;
+use log_rows::Rows;
+use log_rows::comes_of;
+use plan_index::Index;
+use plan_index::conditionrow_of;
+use plan_index::decider_of;
+use plan_index::from_of;
+use plan_index::intofirst_of;
+use plan_index::processes_of;
+use plan_index::rows_of;
+use plan_index::span_of;
 ghost use mathlib.Core.Path.{_≡_};
-ghost use Prim.Native.Nat.{ℕ, _+_, _<_, _≤_};
-ghost use lib.ListN.{getD};
-ghost use Rattle.limits.specs.Limits.{PROCESSES, CONDITIONS, EDGES};
-ghost use Rattle.log_queries.specs.Reading.{Within};
+ghost use Prim.Native.Nat.{_<_, _≤_};
+ghost use Rattle.limits.specs.Limits.{PROCESSES};
+ghost use Rattle.plan_index.specs.Index.{laid, Bounded};
+ghost use Rattle.log_rows.specs.Rows.{rows-of};
 ghost use Rattle.checker_rows.specs.MetArrays.{Readable};
-ghost use Rattle.checker_inputs.specs.Inputs.{sends-by, row-early-by, too-early-by};
+ghost use Rattle.checker_rows.specs.RowOrder.{RowOrder};
+ghost use Rattle.checker_inputs.specs.Inputs.{sender-in, row-early-in, some-early};
 
 // The process that sends the item of row r: a message's sender, or the decider of a condition.
-fn sends<'a>(
-    from: &'a [u32; EDGES],
-    decider: &'a [u32; CONDITIONS],
-    processes: usize,
-    conditionrow: usize,
-    r: usize,
-) -> u32
-    requires { ⌜ (processes ≤ r) × (conditionrow ≤ processes + EDGES) × (r < conditionrow + CONDITIONS) ⌝ }
-    ensures { λ i. ⌜ i ≡ sends-by (now (from .entry)) (now (decider .entry)) processes conditionrow r ⌝ }
+fn sends(index: &Index, r: usize) -> usize
+    requires { ⌜ (laid (now index) .processes ≤ r) × (r < laid (now index) .rows) × Bounded (laid (now index))
+        × RowOrder (laid (now index)) ⌝ }
+    ensures { λ i. ⌜ (i ≡ sender-in (laid (now (index .entry))) r) × (i < PROCESSES) ⌝ }
 {
+    let conditionrow = conditionrow_of(index);
     if r < conditionrow {
-        return from[r - processes];
+        return from_of(index, r - processes_of(index));
     }
-    decider[r - conditionrow]
+    decider_of(index, r - conditionrow)
 }
 
 // Row r is met too early: a process before a carrying edge into it has delivered, an item before its sender's end.
-fn row_early<'a>(
-    processes: usize,
-    conditionrow: usize,
-    remote: &'a [u32; EDGES],
-    from: &'a [u32; EDGES],
-    knownby: &'a [u32; EDGES],
-    unmet: &'a [u32; EDGES],
-    decider: &'a [u32; CONDITIONS],
-    first: &'a [u32; STARTS],
-    into: &'a [u32; EDGES],
-    active: &'a [u32; PROCESSES],
-    comes: &'a [u32; ROWS],
-    span: &'a [u32; ROWS],
-    r: usize,
-) -> bool
-    requires { ⌜ (processes ≤ PROCESSES) × (conditionrow ≤ processes + EDGES) × (r < conditionrow + CONDITIONS) ⌝
-        ∗ ⌜ ((k : ℕ) → getD (now first) k 0 ≤ EDGES) ⌝ ∗ ⌜ ((k : ℕ) → getD (now decider) k 0 < PROCESSES) ⌝
-        ∗ ⌜ Within (now from) (now knownby) (now into) ⌝ ∗ ⌜ Readable (now comes) (now span) ⌝ }
-    ensures { λ b. ⌜ b ≡ row-early-by processes conditionrow (now (remote .entry)) (now (from .entry))
-        (now (knownby .entry)) (now (unmet .entry)) (now (decider .entry)) (now (first .entry)) (now (into .entry))
-        (now (active .entry)) (now (comes .entry)) (now (span .entry)) r ⌝ }
+fn row_early(index: &Index, rows: &Rows, r: usize) -> bool
+    requires { ⌜ (r < laid (now index) .rows) × Bounded (laid (now index)) × RowOrder (laid (now index)) ⌝
+        ∗ ⌜ Readable (rows-of (now rows) .comes) (laid (now index) .span) ⌝ }
+    ensures { λ b. ⌜ b ≡ row-early-in (laid (now (index .entry))) (rows-of (now (rows .entry))) r ⌝ }
 {
-    let x = comes[r];
+    let x = comes_of(rows, r);
     if x == 0 {
         return false;
     }
-    let u = x - span[r];
-    if r < processes {
-        let a = first[r] as usize;
-        let b = first[r + 1] as usize;
-        return misses_some(
-            processes,
-            remote,
-            from,
-            knownby,
-            unmet,
-            comes,
-            active,
-            into,
-            a,
-            b,
-            u,
-        );
+    let u = x - span_of(index, r);
+    if r < processes_of(index) {
+        let a = intofirst_of(index, r);
+        let b = intofirst_of(index, r + 1);
+        return misses_some(index, rows, a, b, u);
     }
-    let i = sends(from, decider, processes, conditionrow, r) as usize;
-    !came(comes[i], u)
+    let i = sends(index, r);
+    !came(comes_of(rows, i), u)
 }
 
 // Refusal 16: some process starts before a carrying edge into it has delivered, or some item before its sender's end.
-// `active` has, by process, 0 where it is not active in the combination.
-pub fn too_early<'a>(
-    processes: usize,
-    conditionrow: usize,
-    rows: usize,
-    remote: &'a [u32; EDGES],
-    from: &'a [u32; EDGES],
-    knownby: &'a [u32; EDGES],
-    unmet: &'a [u32; EDGES],
-    decider: &'a [u32; CONDITIONS],
-    first: &'a [u32; STARTS],
-    into: &'a [u32; EDGES],
-    active: &'a [u32; PROCESSES],
-    comes: &'a [u32; ROWS],
-    span: &'a [u32; ROWS],
-) -> bool
-    requires { ⌜ (processes ≤ PROCESSES) × (conditionrow ≤ processes + EDGES) × (rows ≤ conditionrow + CONDITIONS) ⌝
-        ∗ ⌜ ((k : ℕ) → getD (now first) k 0 ≤ EDGES) ⌝ ∗ ⌜ ((k : ℕ) → getD (now decider) k 0 < PROCESSES) ⌝
-        ∗ ⌜ Within (now from) (now knownby) (now into) ⌝ ∗ ⌜ Readable (now comes) (now span) ⌝ }
-    ensures { λ b. ⌜ b ≡ too-early-by processes conditionrow (now (remote .entry)) (now (from .entry))
-        (now (knownby .entry)) (now (unmet .entry)) (now (decider .entry)) (now (first .entry)) (now (into .entry))
-        (now (active .entry)) (now (comes .entry)) (now (span .entry)) rows ⌝ }
+pub fn too_early(index: &Index, rows: &Rows) -> bool
+    requires { ⌜ Bounded (laid (now index)) × RowOrder (laid (now index)) ⌝
+        ∗ ⌜ Readable (rows-of (now rows) .comes) (laid (now index) .span) ⌝ }
+    ensures { λ b. ⌜ b ≡ some-early (laid (now (index .entry))) (rows-of (now (rows .entry))) ⌝ }
 {
+    let end = rows_of(index);
     let mut r: usize = 0;
-    while r < rows {
-        if row_early(
-            processes,
-            conditionrow,
-            remote,
-            from,
-            knownby,
-            unmet,
-            decider,
-            first,
-            into,
-            active,
-            comes,
-            span,
-            r,
-        ) {
+    while r < end {
+        if row_early(index, rows, r) {
             return true;
         }
         r += 1;

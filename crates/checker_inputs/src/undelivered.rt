@@ -1,65 +1,45 @@
-// Whether an edge that carries has not delivered by a clock, read off arrays by row. `comes` has 0 where no entry of
-// the row is met, else the met entry's tick plus what the row lasts, plus 1.
-use limits::EDGES;
-use limits::PROCESSES;
-use limits::ROWS;
+// Whether an edge that carries has not delivered by a clock, read off what a combination's met entries leave by row. A
+// row's `comes` is 0 where no entry of the row is met, else the met entry's tick plus what the row lasts, plus 1; `run`
+// is 0 where a process is not active in the combination.
 use log_queries::delivered;
+use log_rows::Rows;
+use log_rows::run_of;
+use log_rows::unmet_of;
+use plan_index::Index;
+use plan_index::from_of;
+use plan_index::into_of;
 ghost use mathlib.Core.Path.{_≡_};
 ghost use Prim.Native.Nat.{_<_, _≤_};
-ghost use lib.ListN.{getD};
-ghost use Rattle.limits.specs.Limits.{PROCESSES, EDGES, ROWS};
+ghost use Rattle.limits.specs.Limits.{EDGES};
 ghost use Rattle.lists.specs.Lists.{any};
-ghost use Rattle.log_queries.specs.Reading.{part, Within};
-ghost use Rattle.checker_inputs.specs.Inputs.{misses-by};
+ghost use Rattle.plan_index.specs.Index.{laid, Bounded};
+ghost use Rattle.log_rows.specs.Rows.{rows-of};
+ghost use Rattle.log_queries.specs.Queries.{edges-at};
+ghost use Rattle.checker_inputs.specs.Inputs.{edge-misses};
 
 // Edge e carries and has not delivered by the clock.
-fn misses<'a>(
-    processes: usize,
-    remote: &'a [u32; EDGES],
-    from: &'a [u32; EDGES],
-    knownby: &'a [u32; EDGES],
-    unmet: &'a [u32; EDGES],
-    comes: &'a [u32; ROWS],
-    active: &'a [u32; PROCESSES],
-    e: usize,
-    u: u32,
-) -> bool
-    requires { ⌜ (e < EDGES) × (processes ≤ PROCESSES) × (getD (now from) e 0 < PROCESSES)
-        × (getD (now knownby) e 0 < ROWS) ⌝ }
-    ensures { λ b. ⌜ b ≡ misses-by processes (now (remote .entry)) (now (from .entry)) (now (knownby .entry))
-        (now (unmet .entry)) (now (comes .entry)) (now (active .entry)) u e ⌝ }
+fn misses(index: &Index, rows: &Rows, e: usize, u: u32) -> bool
+    requires { ⌜ (e < EDGES) × Bounded (laid (now index)) ⌝ }
+    ensures { λ b. ⌜ b ≡ edge-misses (laid (now (index .entry))) (rows-of (now (rows .entry))) u e ⌝ }
 {
-    if active[from[e] as usize] == 0 {
+    if run_of(rows, from_of(index, e)) == 0 {
         return false;
     }
-    if unmet[e] != 0 {
+    if unmet_of(rows, e) != 0 {
         return false;
     }
-    !delivered(processes, remote, from, knownby, unmet, comes, e, u)
+    !delivered(index, rows, e, u)
 }
 
 // Some edge of into[a .. b] carries and has not delivered by the clock.
-pub(crate) fn misses_some<'a>(
-    processes: usize,
-    remote: &'a [u32; EDGES],
-    from: &'a [u32; EDGES],
-    knownby: &'a [u32; EDGES],
-    unmet: &'a [u32; EDGES],
-    comes: &'a [u32; ROWS],
-    active: &'a [u32; PROCESSES],
-    into: &'a [u32; EDGES],
-    a: usize,
-    b: usize,
-    u: u32,
-) -> bool
-    requires { ⌜ (b ≤ EDGES) × (processes ≤ PROCESSES) × Within (now from) (now knownby) (now into) ⌝ }
-    ensures { λ z. ⌜ z ≡ any (misses-by processes (now (remote .entry)) (now (from .entry)) (now (knownby .entry))
-        (now (unmet .entry)) (now (comes .entry)) (now (active .entry)) u) (part (now (into .entry)) a b) ⌝ }
+pub(crate) fn misses_some(index: &Index, rows: &Rows, a: usize, b: usize, u: u32) -> bool
+    requires { ⌜ (b ≤ EDGES) × Bounded (laid (now index)) ⌝ }
+    ensures { λ z. ⌜ z ≡ any (edge-misses (laid (now (index .entry))) (rows-of (now (rows .entry))) u)
+        (edges-at (laid (now (index .entry))) a b) ⌝ }
 {
     let mut j = a;
     while j < b {
-        let e = into[j] as usize;
-        if misses(processes, remote, from, knownby, unmet, comes, active, e, u) {
+        if misses(index, rows, into_of(index, j), u) {
             return true;
         }
         j += 1;

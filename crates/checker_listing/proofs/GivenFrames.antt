@@ -22,8 +22,9 @@ use Rattle.laws.proofs.Good.{good}
 use Rattle.laws.proofs.Rules.{Lawful}
 use Rattle.laws.proofs.Sound.{sound-iff}
 use Rattle.laws.proofs.Words.{frames-back, frame-words-back}
-use Rattle.plan_index.specs.declared.index.PlanIndex.{PlanIndex}
-use Rattle.plan_index.specs.Indexed.{Indexed}
+use Rattle.plan_index.specs.declared.PlanIndex.{PlanIndex}
+use Rattle.plan_layout.specs.Indexed.{Indexed}
+use Rattle.plan_layout.proofs.Bounds.{bounded}
 use Rattle.checker_rows.specs.MetRows.{entry-from}
 use Rattle.checker_listing.specs.FrameList.{Tells, Ascends}
 use Rattle.checker_listing.specs.Filling.{Framed-in, Fills, Placed-in, Item-at, item-at, Fitted, frames-given}
@@ -57,7 +58,7 @@ module _ (p : Lines) (b : PlanIndex) (o : Indexed p b) (table : List ℕ) (delay
         rows = λ i l.
             omega (arith, entry-formed i l .row-in, o .processes-count, o .edges-count, o .conditions-count, o .few-processes, o .few-edges, o .few-conditions);
         places = λ i l. entry-formed i l .place-in;
-        sizes = o .size-most;
+        bounded = bounded p b o;
       }
 
   -- an item by its number, and the frame that it alone would give

@@ -10,7 +10,7 @@ use lib.ListN.{length, getD, replicate, length-replicate}
 use Rattle.limits.specs.Limits.{PRINTEDFRAMES}
 use Rattle.lists.proofs.Tests.{below-suc}
 use Rattle.lists.proofs.Fill.{zeros-at}
-use Rattle.plan_index.specs.declared.index.PlanIndex.{PlanIndex}
+use Rattle.plan_index.specs.declared.PlanIndex.{PlanIndex}
 use Rattle.checker_listing.specs.declared.frames.ItemFrame.{ItemFrame}
 use Rattle.checker_listing.specs.FrameList.{All-marked}
 use Rattle.checker_listing.specs.Filling.{Framed-in, Fills, Marked, Item-at, item-at, Fitted}

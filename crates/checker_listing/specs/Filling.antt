@@ -6,12 +6,13 @@ use mathlib.Core.Logic.{_⊎_}
 use mathlib.Core.List.{List}
 use Prim.Native.Nat.{ℕ, _+_, _*_, _%_, _<_, _≤_}
 use lib.ListN.{length, getD}
-use Rattle.limits.specs.Limits.{ROWS, BYTES, LASTPLACE, PRINTEDFRAMEWORDS}
+use Rattle.limits.specs.Limits.{ROWS, LASTPLACE, PRINTEDFRAMEWORDS}
 use Rattle.model.specs.Plan.{Lines}
 use Rattle.model.specs.Table.{Entry, frames, entries-of, frame-words}
 use Rattle.model.specs.Checking.{Sound}
-use Rattle.plan_index.specs.declared.index.PlanIndex.{PlanIndex}
-use Rattle.plan_index.specs.Indexed.{Indexed}
+use Rattle.plan_index.specs.declared.PlanIndex.{PlanIndex}
+use Rattle.plan_index.specs.Index.{Bounded}
+use Rattle.plan_layout.specs.Indexed.{Indexed}
 use Rattle.checker_rows.specs.MetRows.{entry-from}
 use Rattle.checker_listing.specs.declared.frames.ItemFrame.{ItemFrame}
 use Rattle.checker_listing.specs.FrameList.{Ascends}
@@ -47,12 +48,12 @@ pub record In-order (frames : List ℕ) : Type 0 where
   pub few : length frames ≤ PRINTEDFRAMEWORDS
   pub ascends : Ascends frames
 
--- whole entries of rows that the arrays have, at places in a frame
+-- a plan index with small numbers, and whole entries of rows that its arrays have, at places in a frame
 pub record Placed-in (b : PlanIndex) (table : List ℕ) : Type 0 where
   pub fives : length table % 5 ≡ 0
   pub rows : (i : ℕ) → 5 * i < length table → getD table (5 * i) 0 < ROWS
   pub places : (i : ℕ) → 5 * i < length table → getD table (5 * i + 4) 0 ≤ LASTPLACE
-  pub sizes : (r : ℕ) → getD (b .size) r 0 ≤ BYTES
+  pub bounded : Bounded b
 
 -- entry i is an item's, and the frame that it alone would give
 pub record Item-at (b : PlanIndex) (table : List ℕ) (i : ℕ) : Type 0 where

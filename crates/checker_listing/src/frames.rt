@@ -5,17 +5,20 @@ use crate::frame_ticks::find_frame;
 use crate::frame_ticks::ticks_ascend;
 use arrays::wide;
 use limits::PRINTEDFRAMES;
-use limits::ROWS;
-use plan_index::PlanIndex;
+use plan_index::Index;
+use plan_index::processes_of;
+use plan_index::sender_of;
+use plan_index::size_of;
 ghost use mathlib.Core.Path.{_≡_};
 ghost use mathlib.Core.Bool.{true};
 ghost use Prim.Native.Nat.{ℕ, _+_, _%_, _<_, _≤_};
 ghost use lib.ListN.{getD, length};
-ghost use Rattle.limits.specs.Limits.{ROWS, BYTES, LASTPLACE, PRINTEDFRAMES, PRINTEDFRAMEWORDS};
+ghost use Rattle.limits.specs.Limits.{ROWS, LASTPLACE, PRINTEDFRAMES, PRINTEDFRAMEWORDS};
 ghost use Rattle.lists.specs.Lists.{same-numbers};
 ghost use Rattle.model.specs.Plan.{Lines};
 ghost use Rattle.model.specs.Checking.{Sound};
-ghost use Rattle.plan_index.specs.Indexed.{Indexed};
+ghost use Rattle.plan_index.specs.Index.{laid, Bounded};
+ghost use Rattle.plan_layout.specs.Indexed.{Indexed};
 ghost use Rattle.checker_rows.specs.MetRows.{entry-from};
 ghost use Rattle.checker_listing.specs.FrameList.{Tells, All-marked};
 ghost use Rattle.checker_listing.specs.Filling.{item-by, Framed-in, Marked, In-order, Placed-in, Fitted};
@@ -28,23 +31,18 @@ pub struct ItemFrame {
     pub used: u32,
 }
 
-// The frame of the item whose five words begin at table[at]. `sender` has, by row, the node that sends it, and `size`
-// its bytes.
-fn item_frame<'a>(
-    table: &'a [u32],
-    at: usize,
-    sender: &'a [u32; ROWS],
-    size: &'a [u32; ROWS],
-) -> ItemFrame
+// The frame of the item whose five words begin at table[at].
+fn item_frame(table: &[u32], at: usize, index: &Index) -> ItemFrame
     requires { ⌜ (at + 5 ≤ length (now table)) × (getD (now table) at 0 < ROWS)
-        × (getD (now table) (at + 4) 0 ≤ LASTPLACE) ⌝ ∗ ⌜ ((r : ℕ) → getD (now size) r 0 ≤ BYTES) ⌝ }
-    ensures { λ f. ⌜ f ≡ item-by (now (sender .entry)) (now (size .entry)) (entry-from (now (table .entry)) at) ⌝ }
+        × (getD (now table) (at + 4) 0 ≤ LASTPLACE) × Bounded (laid (now index)) ⌝ }
+    ensures { λ f. ⌜ f ≡ item-by (laid (now (index .entry)) .sender) (laid (now (index .entry)) .size)
+        (entry-from (now (table .entry)) at) ⌝ }
 {
     let row = wide(table[at]);
     ItemFrame {
         tick: table[at + 3],
-        node: sender[row],
-        used: table[at + 4] + size[row],
+        node: sender_of(index, row) as u32,
+        used: table[at + 4] + size_of(index, row),
     }
 }
 
@@ -92,17 +90,18 @@ fn all_filled(filled: &[u8; PRINTEDFRAMES], count: usize) -> bool
 }
 
 // Whether each item of a table has its frame among frames in order, and each of these is filled.
-fn items_fit(b: PlanIndex, table: &[u32], frames: &[u32]) -> bool
-    requires { ⌜ Placed-in b (now table) ⌝ ∗ ⌜ In-order (now frames) ⌝ }
-    ensures { λ r. ⌜ Tells r (Fitted b (now (table .entry)) (now (frames .entry))) ⌝ }
+fn items_fit(index: &Index, table: &[u32], frames: &[u32]) -> bool
+    requires { ⌜ Placed-in (laid (now index)) (now table) ⌝ ∗ ⌜ In-order (now frames) ⌝ }
+    ensures { λ r. ⌜ Tells r (Fitted (laid (now (index .entry))) (now (table .entry)) (now (frames .entry))) ⌝ }
 {
     let mut filled = [0u8; PRINTEDFRAMES];
+    let processes = processes_of(index);
     let count = table.len() / 5;
     let mut i: usize = 0;
     while i < count {
         let at = 5 * i;
-        if b.processes <= wide(table[at]) {
-            let item = item_frame(table, at, &b.sender, &b.size);
+        if processes <= wide(table[at]) {
+            let item = item_frame(table, at, index);
             if !fit_item(frames, item, &mut filled) {
                 return false;
             }
@@ -113,14 +112,14 @@ fn items_fit(b: PlanIndex, table: &[u32], frames: &[u32]) -> bool
 }
 
 // Whether these are the frames that the entries of a sound table give.
-pub(crate) fn gives_frames(b: PlanIndex, table: &[u32], frames: &[u32]) -> bool
-    requires { ⌜ Some-sound b (now table) ⌝
+pub(crate) fn gives_frames(index: &Index, table: &[u32], frames: &[u32]) -> bool
+    requires { ⌜ Some-sound (laid (now index)) (now table) ⌝
         ∗ ⌜ (length (now frames) % 3 ≡ 0) × (length (now frames) ≤ PRINTEDFRAMEWORDS) ⌝ }
-    ensures { λ r. ⌜ ((p : Lines) (delay : ℕ) → Indexed p b → Sound p (now (table .entry)) delay →
-        r ≡ same-numbers (now (frames .entry)) (frames-given p (now (table .entry)))) ⌝ }
+    ensures { λ r. ⌜ ((p : Lines) (delay : ℕ) → Indexed p (laid (now (index .entry))) → Sound p (now (table .entry))
+        delay → r ≡ same-numbers (now (frames .entry)) (frames-given p (now (table .entry)))) ⌝ }
 {
     if !ticks_ascend(frames) {
         return false;
     }
-    items_fit(b, table, frames)
+    items_fit(index, table, frames)
 }

@@ -7,7 +7,7 @@ use checker_table::Checked;
 use checker_table::check_words;
 use limits::NODES;
 use plan::Plan;
-use plan_index::of_plan;
+use plan_layout::of_plan;
 use planner_table::count_pass_overs;
 ghost use mathlib.Core.Path.{_≡_};
 ghost use Prim.Native.Nat.{ℕ, _%_, _≤_};
@@ -28,7 +28,8 @@ fn check_sound(p: Plan, table: &[u32], frames: &[u32], passed: &[u32; NODES]) ->
     ensures { λ r. ⌜ ((delay : ℕ) → Sound (lines p) (now (table .entry)) delay → r ≡ answer-of (stated-refusal (lines p)
         (stated-in (now (table .entry)) (now (frames .entry)) delay (take (p .slots) (now (passed .entry)))))) ⌝ }
 {
-    if !gives_frames(of_plan(p), table, frames) {
+    let index = of_plan(p);
+    if !gives_frames(&index, table, frames) {
         return Checked::Refused(22);
     }
     let mut counts = no_counts();

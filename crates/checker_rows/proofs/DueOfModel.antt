@@ -22,9 +22,9 @@ use Rattle.laws.proofs.Rows.{Kind, a-process, an-edge, a-condition, kind, known
 use Rattle.log_queries.specs.Reading.{bit, came-by, within, runs-by, may-run-by}
 use Rattle.log_queries.specs.Holding.{met-in, Runs}
 use Rattle.log_queries.proofs.Running.{may-run-link}
-use Rattle.plan_index.specs.declared.index.PlanIndex.{PlanIndex}
-use Rattle.plan_index.specs.Unmet.{unmet-by}
-use Rattle.plan_index.specs.Indexed.{Indexed}
+use Rattle.plan_index.specs.declared.PlanIndex.{PlanIndex}
+use Rattle.plan_layout.specs.Unmet.{unmet-in}
+use Rattle.plan_layout.specs.Indexed.{Indexed}
 use Rattle.checker_rows.specs.Due.{due-edge, due-row, due-by, active-by, due-of}
 use Rattle.checker_rows.proofs.ColumnBits.{numbered-length}
 
@@ -95,12 +95,12 @@ module _ (p : Lines) (g : Good p) (b : PlanIndex) (h : Indexed p b) (c : ℕ) (l
   C = getD (combinations p) c []
 
   abbrev missed : List ℕ
-  missed = unmet-by (b .kind) (b .condition) (b .edges) c
+  missed = unmet-in b c
 
   count : length C ≡ length (p .conditions)
   count = numbered-length p g c l
 
-  active-runs : Runs (active-by b missed) (may-run p (all-heard C))
+  pub active-runs : Runs (active-by b (unmet-in b c)) (may-run p (all-heard (getD (combinations p) c [])))
   unfolding active-by
   active-runs i =
       (λ j. eqb (getD (may-run-by (b .from) (b .knownby) missed (replicate 198 1) 1 (b .asany) (b .intofirst) (b .into) (h .processes-count j)) i 0) 0)

@@ -1,4 +1,4 @@
--- Laws of the rows that are due: DueMade (the array of them put together).
+-- Laws of the rows that are due: DueMade (the array of them put together, and the rows made over one by one).
 pub mod DueMade
 -- RangeLoops (a test over some numbers, one by one), LogRows (a test over a log is a test over the rows of the arrays
 -- that hold it), MetPlan (a plan and the entries that a combination meets, in arrays), MetBounds (what refusal 13

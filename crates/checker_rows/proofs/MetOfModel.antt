@@ -26,10 +26,9 @@ use Rattle.model.specs.Checking.{ill-formed, own, met-entries, met-log, due, mi
 use Rattle.laws.proofs.Good.{Good, good}
 use Rattle.laws.proofs.Checks.{none-14}
 use Rattle.log_queries.specs.Holding.{Row, absent, stands, Held}
-use Rattle.plan_index.specs.declared.index.PlanIndex.{PlanIndex}
-use Rattle.plan_index.specs.Indexed.{Indexed}
-use Rattle.checker_rows.specs.declared.met.MetRows.{MetRows}
-use Rattle.checker_rows.specs.MetRows.{met-in, counted, ends, placed, column, by-row, met-rows, Rowed}
+use Rattle.plan_index.specs.declared.PlanIndex.{PlanIndex}
+use Rattle.plan_layout.specs.Indexed.{Indexed}
+use Rattle.checker_rows.specs.MetRows.{met-in, counted, ends, placed, column, by-row, met-rows, met-comes, met-place, Rowed}
 use Rattle.checker_rows.specs.Due.{due-of, differs-at, miscounted-by}
 use Rattle.checker_rows.proofs.ColumnBits.{Formed, formed, column-same}
 use Rattle.checker_rows.proofs.RowStores.{of-row, left-by, left-most, by-row-at, by-row-length, count-tells}
@@ -73,9 +72,6 @@ module _ (p : Lines) (h : plan-refusal p ≡ nothing) (words : List ℕ) (f : an
     abbrev M : List Entry
     M = met-entries es C
 
-    abbrev A : MetRows
-    A = met-rows words c (b .span)
-
     -- an entry is met just where the code says so
     pub column-link : (e : Entry) → In e (entries-of words) → column-met (all-heard (getD (combinations p) c [])) e ≡ met-in c e
     column-link e m = column-same p g c l e (in-form e m) (values-word words (2 ^ 32) w e m)
@@ -109,30 +105,28 @@ module _ (p : Lines) (h : plan-refusal p ≡ nothing) (words : List ℕ) (f : an
     at-row k r = by-row-at k c words r rowed ∙ ap (λ (xs : List Entry). left-by k (of-row xs r) 0) (sym met-same)
 
     -- how large the numbers in the arrays are
-    pub comes-most : (r : ℕ) → getD (met-rows words c (b .span) .comes) r 0 ≤ 1000100000
-    unfolding met-rows
+    pub comes-most : (r : ℕ) → getD (met-comes words c (b .span)) r 0 ≤ 1000100000
     comes-most r =
         rw (at-row (ends (b .span)) r)
         (left-most (ends (b .span)) 1000100000 (of-row M r) 0
         (λ e m x. omega (arith, in-form e (row-in-table r e m) .tick-most, bd .span-most (e .row))) (omega arith))
 
-    pub place-most : (r : ℕ) → getD (met-rows words c (b .span) .place) r 0 ≤ 63
-    unfolding met-rows
+    pub place-most : (r : ℕ) → getD (met-place words c) r 0 ≤ 63
     place-most r = rw (at-row placed r) (left-most placed 63 (of-row M r) 0 (λ e m x. in-form e (row-in-table r e m) .place-most) (omega arith))
 
     -- refusal 14 in one combination
-    count-same : (r : ℕ) → r < rows p → differs-at (A .count) (due-of b c) r ≡ miscounted p C (met-log es C) r
+    count-same : (r : ℕ) → r < rows p → differs-at (met-rows words c .count) (due-of b c) r ≡ miscounted p C (met-log es C) r
     unfolding differs-at miscounted met-rows
     count-same r u =
         (λ i. not (eqb (at-row counted r i) (due-link p g b bd c l r u i)))
         ∙ ap not (count-tells (of-row M r) (due p C r))
         ∙ ap (λ (n : ℕ). not (eqb n (if due p C r then 1 else 0))) (sym (row-length r))
 
-    pub miscounts-link : miscounted-by (met-rows words c (b .span) .count) (due-of b c) (b .rows) ≡ not-once p (entries-of words) (getD (combinations p) c [])
+    pub miscounts-link : miscounted-by (met-rows words c .count) (due-of b c) (b .rows) ≡ not-once p (entries-of words) (getD (combinations p) c [])
     unfolding miscounted-by not-once
     miscounts-link =
-        ap (λ (n : ℕ). any (differs-at (A .count) (due-of b c)) (below n)) (bd .row-count)
-        ∙ any-same (differs-at (A .count) (due-of b c)) (miscounted p C (met-log es C)) (below (rows p)) (λ r m. count-same r (below-in (rows p) m))
+        ap (λ (n : ℕ). any (differs-at (met-rows words c .count) (due-of b c)) (below n)) (bd .row-count)
+        ∙ any-same (differs-at (met-rows words c .count) (due-of b c)) (miscounted p C (met-log es C)) (below (rows p)) (λ r m. count-same r (below-in (rows p) m))
 
     -- where each row is met as often as it is due
     module _ (once : not-once p (entries-of words) (getD (combinations p) c []) ≡ false) where
@@ -157,17 +151,15 @@ module _ (p : Lines) (h : plan-refusal p ≡ nothing) (words : List ℕ) (f : an
       stored-at k e m = at-row k (e .row) ∙ ap (λ (xs : List Entry). left-by k xs 0) (alone e m)
 
       -- what the arrays have of a met entry
-      pub known-at : (e : Entry) → In e (met-entries (entries-of words) (getD (combinations p) c [])) → getD (met-rows words c (b .span) .known) (e .row) 0 ≡ e .known
+      pub known-at : (e : Entry) → In e (met-entries (entries-of words) (getD (combinations p) c [])) → getD (met-rows words c .known) (e .row) 0 ≡ e .known
       unfolding met-rows
       known-at e m = stored-at column e m
 
-      pub place-at : (e : Entry) → In e (met-entries (entries-of words) (getD (combinations p) c [])) → getD (met-rows words c (b .span) .place) (e .row) 0 ≡ e .place
-      unfolding met-rows
+      pub place-at : (e : Entry) → In e (met-entries (entries-of words) (getD (combinations p) c [])) → getD (met-place words c) (e .row) 0 ≡ e .place
       place-at e m = stored-at placed e m
 
       pub comes-at : (e : Entry) → In e (met-entries (entries-of words) (getD (combinations p) c [])) →
-          getD (met-rows words c (b .span) .comes) (e .row) 0 ≡ suc (e .tick + span p (full-ticks p) (e .row))
-      unfolding met-rows
+          getD (met-comes words c (b .span)) (e .row) 0 ≡ suc (e .tick + span p (full-ticks p) (e .row))
       comes-at e m =
           let s = bd .spans (e .row) (in-form e (met-in-table e m) .row-in) in
           stored-at (ends (b .span)) e m ∙ omega arith
@@ -175,26 +167,23 @@ module _ (p : Lines) (h : plan-refusal p ≡ nothing) (words : List ℕ) (f : an
       empty-at : (k : Entry → ℕ → ℕ) (r : ℕ) → of-row M r ≡ [] → getD (by-row k c words) r 0 ≡ 0
       empty-at k r q = at-row k r ∙ ap (λ (xs : List Entry). left-by k xs 0) q
 
-      row-of : (r : ℕ) (xs : List Entry) → of-row M r ≡ xs → Row p (met-log es C) r (getD (A .comes) r 0) (getD (A .place) r 0)
-      unfolding met-rows
+      row-of : (r : ℕ) (xs : List Entry) → of-row M r ≡ xs → Row p (met-log es C) r (getD (met-comes words c (b .span)) r 0) (getD (met-place words c) r 0)
       row-of r [] q = absent (rows-same r ∙ ap (map own) q) (empty-at (ends (b .span)) r q)
       row-of r (e ∷ xs) q =
           let k = first-in r e xs q in
-          subst (λ (r : ℕ). Row p (met-log es C) r (getD (A .comes) r 0) (getD (A .place) r 0)) (k .1)
+          subst (λ (r : ℕ). Row p (met-log es C) r (getD (met-comes words c (b .span)) r 0) (getD (met-place words c) r 0)) (k .1)
           (stands (e .tick)
           (rows-same (e .row) ∙ ap (map own) (alone e (k .0)) ∙ (λ i. record { row = e .row; tick = e .tick; place = sym (place-at e (k .0)) i } ∷ []))
           (comes-at e (k .0)))
 
-      process-place : (i : ℕ) → i < length (p .processes) → (xs : List Entry) → of-row M i ≡ xs → getD (A .place) i 0 ≡ 0
-      unfolding met-rows
+      process-place : (i : ℕ) → i < length (p .processes) → (xs : List Entry) → of-row M i ≡ xs → getD (met-place words c) i 0 ≡ 0
       process-place i u [] q = empty-at placed i q
       process-place i u (e ∷ xs) q =
           let k = first-in i e xs q in
-          ap (λ (r : ℕ). getD (A .place) r 0) (sym (k .1)) ∙ place-at e (k .0) ∙ in-form e (met-in-table e (k .0)) .no-place (rw (k .1) u)
+          ap (λ (r : ℕ). getD (met-place words c) r 0) (sym (k .1)) ∙ place-at e (k .0) ∙ in-form e (met-in-table e (k .0)) .no-place (rw (k .1) u)
 
       -- the arrays hold the log of the met entries
-      pub held : Held p (met-log (entries-of words) (getD (combinations p) c [])) (met-rows words c (b .span) .comes) (met-rows words c (b .span) .place)
-      unfolding met-rows
+      pub held : Held p (met-log (entries-of words) (getD (combinations p) c [])) (met-comes words c (b .span)) (met-place words c)
       held =
           record {
             row = λ r. row-of r (of-row M r) refl;

@@ -17,8 +17,8 @@ use Rattle.log_queries.specs.Reading.{came-by}
 use Rattle.log_queries.specs.Holding.{Held}
 use Rattle.log_queries.proofs.Held.{held-logged}
 use Rattle.log_queries.proofs.Placing.{placed-at}
-use Rattle.plan_index.specs.declared.index.PlanIndex.{PlanIndex}
-use Rattle.plan_index.specs.Indexed.{Indexed}
+use Rattle.plan_index.specs.declared.PlanIndex.{PlanIndex}
+use Rattle.plan_layout.specs.Indexed.{Indexed}
 
 -- Refusal 13 finds nothing in the entries of the table, and the arrays hold those that the combination meets: their
 -- ticks and places (`comes`, `place`), each row once, and the known bits of their columns (`bits`).

@@ -10,7 +10,8 @@ use lib.ListN.{length, getD, drop, set, replicate, drop-of-length-le}
 use borrow.Author.Tests.{eq-eqb, ne-eqb}
 use Rattle.lists.proofs.Parts.{drop-one}
 use Rattle.model.specs.Table.{Entry, entries-of}
-use Rattle.checker_rows.specs.MetRows.{entry-from, after, after-all, by-row, Rowed}
+use Rattle.log_rows.specs.Rows.{Rows, with-comes, with-place, put-comes, put-place}
+use Rattle.checker_rows.specs.MetRows.{entry-from, ends, placed, after, after-all, after-entry, by-row, Rowed}
 
 -- an array after an entry that is met, and after one that is not
 module _ (f : Entry → ℕ → ℕ) (c : ℕ) (e : Entry) (xs : List ℕ) where
@@ -19,6 +20,35 @@ module _ (f : Entry → ℕ → ℕ) (c : ℕ) (e : Entry) (xs : List ℕ) where
 
   pub skipped : (e .values ≡ bitAnd c (e .known) → ⊥) → xs ≡ after f c e xs
   skipped q = rw (ne-eqb (e .values) (bitAnd c (e .known)) q)
+
+-- the rows of a combination after an entry that is met, and after one that is not
+module _ (lasting : List ℕ) (c : ℕ) (e : Entry) (s : Rows) where
+  pub entry-stored : {i x y : ℕ} {t r : Rows} → e .values ≡ bitAnd c (e .known) → i ≡ e .row → x ≡ e .tick + getD lasting (e .row) 0 + 1 → y ≡ e .place →
+      t ≡ put-comes i x s → r ≡ put-place i y t → r ≡ after-entry lasting c e s
+  entry-stored {i} {x} {y} q p xq yq tq rq =
+      rq ∙ ap (put-place i y) tq
+      ∙ (λ k. with-place (stored placed c e (s .place) q p yq k) (with-comes (stored (ends lasting) c e (s .comes) q p xq k) s))
+
+  pub entry-skipped : (e .values ≡ bitAnd c (e .known) → ⊥) → s ≡ after-entry lasting c e s
+  entry-skipped q =
+      λ k. record { run = s .run; unmet = s .unmet; comes = skipped (ends lasting) c e (s .comes) q k; place = skipped placed c e (s .place) q k }
+
+-- only `comes` and `place` of the rows differ from those before
+abbrev pub Only-met : Rows → Rows → Type 0
+Only-met s r = r ≡ with-place (r .place) (with-comes (r .comes) s)
+
+pub only-next : (lasting : List ℕ) (c : ℕ) (e : Entry) (s r : Rows) {t : Rows} → t ≡ after-entry lasting c e r → Only-met s r → Only-met s t
+only-next lasting c e s r {t} q h =
+    λ k.
+    record {
+      run = (ap (λ (x : Rows). x .run) q ∙ ap (λ (x : Rows). x .run) h) k;
+      unmet = (ap (λ (x : Rows). x .unmet) q ∙ ap (λ (x : Rows). x .unmet) h) k;
+      comes = t .comes;
+      place = t .place;
+    }
+
+pub only-end : (s : Rows) {r : Rows} {xs ys : List ℕ} → Only-met s r → r .comes ≡ xs → r .place ≡ ys → r ≡ with-place ys (with-comes xs s)
+only-end s h p q = h ∙ (λ k. with-place (q k) (with-comes (p k) s))
 
 module _ (words : List ℕ) where
   one-word : (i j : ℕ) → i + 1 ≡ j → i < length words → drop i words ≡ getD words i 0 ∷ drop j words

@@ -11,8 +11,9 @@ use lib.ListN.{getD, replicate}
 use Rattle.limits.specs.Limits.{ROWS}
 use Rattle.lists.specs.Lists.{if_then_else_, any, below, fill}
 use Rattle.log_queries.specs.Reading.{may-run-by}
-use Rattle.plan_index.specs.declared.index.PlanIndex.{PlanIndex}
-use Rattle.plan_index.specs.Unmet.{unmet-by}
+use Rattle.log_rows.specs.Rows.{Rows, with-run, with-unmet, with-comes}
+use Rattle.plan_index.specs.declared.PlanIndex.{PlanIndex}
+use Rattle.plan_layout.specs.Unmet.{unmet-in}
 
 -- 1 where edge e is between nodes, its `when` is met and its sender is active
 abbrev pub due-edge : List ℕ → List ℕ → List ℕ → List ℕ → ℕ → ℕ
@@ -27,15 +28,28 @@ due-row processes conditionrow from unmet remote decider run r =
 unfoldable pub due-by : ℕ → ℕ → ℕ → List ℕ → List ℕ → List ℕ → List ℕ → List ℕ → List ℕ
 due-by processes conditionrow rows from unmet remote decider run = fill ROWS (due-row processes conditionrow from unmet remote decider run) rows
 
+-- the same by a plan index and the rows of a combination
+module _ (b : PlanIndex) (s : Rows) where
+  abbrev pub edge-due-in : ℕ → ℕ
+  edge-due-in = due-edge (b .from) (s .unmet) (b .remote) (s .run)
+
+  abbrev pub row-due-in : ℕ → ℕ
+  row-due-in = due-row (b .processes) (b .conditionrow) (b .from) (s .unmet) (b .remote) (b .decider) (s .run)
+
+  abbrev pub due-in : List ℕ
+  due-in = due-by (b .processes) (b .conditionrow) (b .rows) (b .from) (s .unmet) (b .remote) (b .decider) (s .run)
+
 -- the processes that are active in a combination: those that may run where every row is over
 unfoldable pub active-by : PlanIndex → List ℕ → List ℕ
 active-by b unmet = may-run-by (b .from) (b .knownby) unmet (replicate ROWS 1) 1 (b .asany) (b .intofirst) (b .into) (b .processes)
 
 -- the due rows of a plan index's plan in the combination with number c
 unfoldable pub due-of : PlanIndex → ℕ → List ℕ
-due-of b c =
-    let unmet : List ℕ = unmet-by (b .kind) (b .condition) (b .edges) c in
-    due-by (b .processes) (b .conditionrow) (b .rows) (b .from) unmet (b .remote) (b .decider) (active-by b unmet)
+due-of b c = due-by (b .processes) (b .conditionrow) (b .rows) (b .from) (unmet-in b c) (b .remote) (b .decider) (active-by b (unmet-in b c))
+
+-- the rows of a combination in which no row is placed: which processes are active, and which `when`s are not met
+abbrev pub with-active : PlanIndex → ℕ → Rows → Rows
+with-active b c s = with-run (active-by b (unmet-in b c)) (with-unmet (unmet-in b c) (with-comes (replicate ROWS 0) s))
 
 -- a row is not met as often as it is due
 unfoldable pub differs-at : List ℕ → List ℕ → ℕ → Bool

@@ -1,3 +1,4 @@
+pub mod RowOrder
 pub mod Due
 pub mod MetArrays
 pub mod MetRows

@@ -1,5 +1,6 @@
 -- The met entries of one combination, in arrays by row: which entries are met, and what each of them stores.
 -- Assumes nothing.
+use mathlib.Core.Path.{_≡_}
 use Prim.Native.Nat.{ℕ, _+_, _^_, _<_, _≤_}
 use mathlib.Core.Bool.{Bool}
 use mathlib.Core.List.{List, [], _∷_, List·Memᴰ as In}
@@ -9,6 +10,7 @@ use lib.ListN.{length, getD, set, replicate}
 use Rattle.limits.specs.Limits.{ROWS}
 use Rattle.lists.specs.Lists.{if_then_else_}
 use Rattle.model.specs.Table.{Entry, entries-of}
+use Rattle.log_rows.specs.Rows.{Rows, with-comes, with-place}
 use Rattle.checker_rows.specs.declared.met.MetRows.{MetRows}
 
 -- the entry whose words begin at a place
@@ -57,10 +59,26 @@ module _ (f : Entry → ℕ → ℕ) (c : ℕ) where
   unfoldable pub by-row : List ℕ → List ℕ
   by-row words = after-all (entries-of words) (replicate ROWS 0)
 
--- the arrays by row of a table's met entries
-unfoldable pub met-rows : List ℕ → ℕ → List ℕ → MetRows
-met-rows words c lasting =
-    record { count = by-row counted c words; comes = by-row (ends lasting) c words; place = by-row placed c words; known = by-row column c words }
+-- how often each row is met, and the known bits of the met columns
+unfoldable pub met-rows : List ℕ → ℕ → MetRows
+met-rows words c = record { count = by-row counted c words; known = by-row column c words }
+
+-- when the met rows are over, and their places
+abbrev pub met-comes : List ℕ → ℕ → List ℕ → List ℕ
+met-comes words c lasting = by-row (ends lasting) c words
+
+abbrev pub met-place : List ℕ → ℕ → List ℕ
+met-place words c = by-row placed c words
+
+-- the rows of a combination after one entry; with all that is met; before any
+abbrev pub after-entry : List ℕ → ℕ → Entry → Rows → Rows
+after-entry lasting c e s = with-place (after placed c e (s .place)) (with-comes (after (ends lasting) c e (s .comes)) s)
+
+abbrev pub with-met : List ℕ → ℕ → List ℕ → Rows → Rows
+with-met words c lasting s = with-place (met-place words c) (with-comes (met-comes words c lasting) s)
+
+abbrev pub None-met : Rows → Type 0
+None-met s = (s .comes ≡ replicate ROWS 0) × (s .place ≡ replicate ROWS 0)
 
 -- every entry has a row of the arrays and a tick of at most nine digits
 abbrev pub Rowed : List ℕ → Type 0

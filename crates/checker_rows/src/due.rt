@@ -1,144 +1,96 @@
 // The rows that are due in one combination.
 use arrays::no_rows;
-use arrays::wide;
-use limits::CONDITIONS;
-use limits::EDGES;
-use limits::PROCESSES;
 use limits::ROWS;
 use log_queries::may_run;
-use plan_index::PlanIndex;
-use plan_index::unmet;
+use log_rows::COMES_AT;
+use log_rows::Rows;
+use log_rows::run_of;
+use log_rows::unmet_of;
+use plan_index::Index;
+use plan_index::conditionrow_of;
+use plan_index::decider_of;
+use plan_index::from_of;
+use plan_index::processes_of;
+use plan_index::remote_of;
+use plan_index::rows_of;
+use plan_layout::find_unmet;
 ghost use mathlib.Core.Path.{_≡_};
-ghost use Prim.Native.Nat.{ℕ, _+_, _<_, _≤_};
-ghost use lib.ListN.{getD, replicate};
-ghost use Rattle.limits.specs.Limits.{PROCESSES, CONDITIONS, EDGES, ROWS};
-ghost use Rattle.model.specs.Plan.{Lines};
-ghost use Rattle.plan_index.specs.Indexed.{Indexed};
-ghost use Rattle.checker_rows.specs.Due.{due-edge, due-row, due-by, due-of};
-
-// An array by row in which every row is over from clock 1 on.
-fn all_over() -> [u32; ROWS]
-    ensures { λ r. ⌜ r ≡ replicate ROWS 1 ⌝ }
-{
-    [1u32; ROWS]
-}
+ghost use Prim.Native.Nat.{_+_, _<_, _≤_};
+ghost use lib.ListN.{length, replicate};
+ghost use Rattle.limits.specs.Limits.{EDGES, ROWS};
+ghost use Rattle.plan_index.specs.Index.{laid, Bounded};
+ghost use Rattle.log_rows.specs.Rows.{rows-of, with-comes};
+ghost use Rattle.checker_rows.specs.RowOrder.{RowOrder};
+ghost use Rattle.checker_rows.specs.Due.{edge-due-in, row-due-in, due-in, due-of, with-active};
 
 // Whether edge e is due: it is between nodes, its `when` is met, and its sender is active. 1, or 0.
-fn edge_due<'a>(
-    from: &'a [u32; EDGES],
-    unmet: &'a [u32; EDGES],
-    remote: &'a [u32; EDGES],
-    run: &'a [u32; PROCESSES],
-    e: usize,
-) -> u32
-    requires { ⌜ (e < EDGES) × (getD (now from) e 0 < PROCESSES) ⌝ }
-    ensures { λ r. ⌜ r ≡ due-edge (now (from .entry)) (now (unmet .entry)) (now (remote .entry))
-        (now (run .entry)) e ⌝ }
+fn edge_due(index: &Index, rows: &Rows, e: usize) -> u32
+    requires { ⌜ (e < EDGES) × Bounded (laid (now index)) ⌝ }
+    ensures { λ r. ⌜ r ≡ edge-due-in (laid (now (index .entry))) (rows-of (now (rows .entry))) e ⌝ }
 {
-    if remote[e] == 0 {
+    if remote_of(index, e) == 0 {
         return 0;
     }
-    if unmet[e] == 0 {
-        return run[from[e] as usize];
+    if unmet_of(rows, e) == 0 {
+        return run_of(rows, from_of(index, e));
     }
     0
 }
 
 // Whether row r is due: 1, or 0.
-fn row_due<'a>(
-    processes: usize,
-    conditionrow: usize,
-    from: &'a [u32; EDGES],
-    unmet: &'a [u32; EDGES],
-    remote: &'a [u32; EDGES],
-    decider: &'a [u32; CONDITIONS],
-    run: &'a [u32; PROCESSES],
-    r: usize,
-) -> u32
-    requires { ⌜ (processes ≤ PROCESSES) × (conditionrow ≤ processes + EDGES) × (r < conditionrow + CONDITIONS) ⌝
-        ∗ ⌜ ((e : ℕ) → getD (now from) e 0 < PROCESSES) ⌝ ∗ ⌜ ((k : ℕ) → getD (now decider) k 0 < PROCESSES) ⌝ }
-    ensures { λ x. ⌜ x ≡ due-row processes conditionrow (now (from .entry)) (now (unmet .entry)) (now (remote .entry))
-        (now (decider .entry)) (now (run .entry)) r ⌝ }
+fn row_due(index: &Index, rows: &Rows, r: usize) -> u32
+    requires { ⌜ (r < laid (now index) .rows) × Bounded (laid (now index)) × RowOrder (laid (now index)) ⌝ }
+    ensures { λ x. ⌜ x ≡ row-due-in (laid (now (index .entry))) (rows-of (now (rows .entry))) r ⌝ }
 {
+    let processes = processes_of(index);
     if r < processes {
-        return run[r];
+        return run_of(rows, r);
     }
+    let conditionrow = conditionrow_of(index);
     if r < conditionrow {
-        return edge_due(from, unmet, remote, run, r - processes);
+        return edge_due(index, rows, r - processes);
     }
-    let i = wide(decider[r - conditionrow]);
-    run[i]
+    run_of(rows, decider_of(index, r - conditionrow))
 }
 
 // Which rows are due, given which processes are active.
-fn rows_due<'a>(
-    processes: usize,
-    conditionrow: usize,
-    rows: usize,
-    from: &'a [u32; EDGES],
-    unmet: &'a [u32; EDGES],
-    remote: &'a [u32; EDGES],
-    decider: &'a [u32; CONDITIONS],
-    run: &'a [u32; PROCESSES],
-) -> [u32; ROWS]
-    requires { ⌜ (processes ≤ PROCESSES) × (conditionrow ≤ processes + EDGES) × (rows ≤ conditionrow + CONDITIONS) ⌝
-        ∗ ⌜ ((e : ℕ) → getD (now from) e 0 < PROCESSES) ⌝ ∗ ⌜ ((k : ℕ) → getD (now decider) k 0 < PROCESSES) ⌝ }
-    ensures { λ x. ⌜ x ≡ due-by processes conditionrow rows (now (from .entry)) (now (unmet .entry))
-        (now (remote .entry)) (now (decider .entry)) (now (run .entry)) ⌝ }
+fn rows_due(index: &Index, rows: &Rows) -> [u32; ROWS]
+    requires { ⌜ Bounded (laid (now index)) × RowOrder (laid (now index)) ⌝ }
+    ensures { λ x. ⌜ x ≡ due-in (laid (now (index .entry))) (rows-of (now (rows .entry))) ⌝ }
 {
     let mut due = no_rows();
+    let end = rows_of(index);
     let mut r: usize = 0;
-    while r < rows {
-        due[r] = row_due(
-            processes,
-            conditionrow,
-            from,
-            unmet,
-            remote,
-            decider,
-            run,
-            r,
-        );
+    while r < end {
+        due[r] = row_due(index, rows, r);
         r += 1;
     }
     due
 }
 
-// The rows that are due in the combination with number c: 1 where a row is due, 0 where it is not.
-pub fn due_rows(b: PlanIndex, c: u32) -> [u32; ROWS]
-    requires { ⌜ ((p : Lines) × Indexed p b) ⌝ }
-    ensures { λ r. ⌜ r ≡ due-of b c ⌝ }
+// Says of every row that it is over at this clock, 0 for a row that is not placed.
+fn put_all_comes(rows: &mut [u32], clock: u32)
+    requires { ⌜ 192 + ROWS ≤ length (now rows) ⌝ }
+    ensures { λ _. ⌜ rows-of (now (rows .exit)) ≡ with-comes (replicate ROWS clock) (rows-of (now (rows .entry))) ⌝ }
 {
-    let from = b.from;
-    let knownby = b.knownby;
-    let remote = b.remote;
-    let asany = b.asany;
-    let intofirst = b.intofirst;
-    let into = b.into;
-    let decider = b.decider;
-    let kind = b.kind;
-    let condition = b.condition;
-    let over = all_over();
-    let missed = unmet(&kind, &condition, b.edges, c);
-    let run = may_run(
-        b.processes,
-        &from,
-        &knownby,
-        &missed,
-        &over,
-        &asany,
-        &intofirst,
-        &into,
-        1,
-    );
-    rows_due(
-        b.processes,
-        b.conditionrow,
-        b.rows,
-        &from,
-        &missed,
-        &remote,
-        &decider,
-        &run,
-    )
+    let mut r: usize = 0;
+    while r < ROWS {
+        rows[COMES_AT + r] = clock;
+        r += 1;
+    }
+}
+
+// The rows that are due in the combination with number c: 1 where a row is due, 0 where it is not. Leaves in `rows`
+// which processes are active in the combination, and which `when`s it does not meet; no row is placed there then.
+pub fn due_rows(index: &Index, c: u32, rows: &mut Rows) -> [u32; ROWS]
+    requires { ⌜ Bounded (laid (now index)) × RowOrder (laid (now index))
+        × (rows-of (now rows) .unmet ≡ replicate EDGES 0) ⌝ }
+    ensures { λ r. ⌜ (r ≡ due-of (laid (now (index .entry))) c) × (rows-of (now (rows .exit))
+        ≡ with-active (laid (now (index .entry))) c (rows-of (now (rows .entry)))) ⌝ }
+{
+    put_all_comes(rows, 1);
+    find_unmet(index, c, rows);
+    may_run(index, 1, rows);
+    put_all_comes(rows, 0);
+    rows_due(index, rows)
 }

@@ -15,8 +15,8 @@ use Rattle.model.specs.Plan.{Lines, local}
 use Rattle.model.specs.Bus.{rows, is-process, is-edge, row-edge}
 use Rattle.model.specs.Table.{Entry, entries-of, bits-within}
 use Rattle.model.specs.Checking.{ill-formed}
-use Rattle.plan_index.specs.declared.index.PlanIndex.{PlanIndex}
-use Rattle.plan_index.specs.Indexed.{Indexed}
+use Rattle.plan_index.specs.declared.PlanIndex.{PlanIndex}
+use Rattle.plan_layout.specs.Indexed.{Indexed}
 use Rattle.checker_rules.proofs.Bits.{shared-within}
 use Rattle.checker_rows.specs.MetRows.{Small}
 use Rattle.checker_rules.specs.EntryForm.{local-row, ill-formed-by}

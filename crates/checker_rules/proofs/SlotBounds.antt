@@ -11,12 +11,11 @@ use Rattle.checker_rules.specs.Rules.{Slotted}
 module _ (m : MetPlan) where
   open MetPlan m using (plan as p, index as b, indexed as w, comes)
 
-  pub slotted : Slotted comes (b .sender) (b .offset) (b .round)
+  pub slotted : Slotted b comes
   slotted =
       record {
         round-one = omega (arith, w .round-one);
         round-most = omega (arith, w .round-most);
-        nodes = w .sender-small;
         offsets = λ r n.
             let k = met-row m r (placed-is comes r n) in
             let l : getD (b .sender) r 0 < length (p .slots) = omega (arith, w .senders-of r (k .0), node-in p (m .sound) r (k .0)) in

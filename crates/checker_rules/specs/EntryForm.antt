@@ -7,6 +7,7 @@ use lib.Bits.{bitAnd}
 use lib.Dec.{eqb, leb, ltb}
 use lib.ListN.{getD}
 use Rattle.model.specs.Table.{Entry}
+use Rattle.plan_index.specs.declared.PlanIndex.{PlanIndex}
 
 -- 13: a row is that of an edge within one node
 unfoldable pub local-row : ℕ → ℕ → List ℕ → ℕ → Bool
@@ -22,3 +23,11 @@ ill-formed-by processes conditionrow rows combinations remote e =
     || (ltb 999999999 (e .tick)
     || (ltb 63 (e .place)
     || (ltb (e .row) processes && ltb 0 (e .place)))))))
+
+-- the same by a plan index
+module _ (b : PlanIndex) where
+  abbrev pub is-local-row : ℕ → Bool
+  is-local-row = local-row (b .processes) (b .conditionrow) (b .remote)
+
+  abbrev pub is-ill-formed : ℕ → Entry → Bool
+  is-ill-formed combinations = ill-formed-by (b .processes) (b .conditionrow) (b .rows) combinations (b .remote)

@@ -9,6 +9,8 @@ use Prim.Native.Nat.{ℕ, _-_, _<_}
 use lib.Bits.{bitAnd}
 use lib.Dec.{eqb, leb}
 use lib.ListN.{getD}
+use Rattle.plan_index.specs.declared.PlanIndex.{PlanIndex}
+use Rattle.log_rows.specs.Rows.{Rows}
 use Rattle.log_queries.specs.Reading.{placed-by, known-by}
 use Rattle.bus_timetable.specs.Bus.{beginning-at}
 use Rattle.checker_rows.specs.MetArrays.{some, start-by}
@@ -42,9 +44,31 @@ module _ (node comes span : List ℕ) where
 unfoldable pub overlap-by : ℕ → List ℕ → List ℕ → List ℕ → Bool
 overlap-by processes node comes span = some (overlaps-by node comes span) 0 processes
 
--- the sender of a row is a node, and a met row's slot lies in the round
-pub record Slotted (comes sender offset : List ℕ) (round : ℕ) : Type 0 where
-  pub round-one : 0 < round
-  pub round-most : round < 4194304
-  pub nodes : (r : ℕ) → getD sender r 0 < 8
-  pub offsets : (r : ℕ) → (getD comes r 0 ≡ 0 → ⊥) → getD offset (getD sender r 0) 0 < 4194304
+-- the same by a plan index and the rows of a combination
+module _ (b : PlanIndex) (s : Rows) where
+  abbrev pub row-unknown : List ℕ → ℕ → Bool
+  row-unknown known = row-uses-unknown-by (s .comes) (b .span) known (b .conditionrow) (b .conditions)
+
+  abbrev pub some-unknown : List ℕ → Bool
+  some-unknown known = uses-unknown-by (s .comes) (b .span) known (b .conditionrow) (b .conditions) (b .rows)
+
+  abbrev pub row-off : ℕ → Bool
+  row-off = off-by (b .round) (b .offset) (b .sender) (s .comes) (b .span)
+
+  abbrev pub some-off : Bool
+  some-off = off-slot-by (b .processes) (b .rows) (b .round) (b .offset) (b .sender) (s .comes) (b .span)
+
+  abbrev pub run-at-once : ℕ → ℕ → Bool
+  run-at-once = together-by (b .node) (s .comes) (b .span)
+
+  abbrev pub row-overlaps : ℕ → Bool
+  row-overlaps = overlaps-by (b .node) (s .comes) (b .span)
+
+  abbrev pub some-overlap : Bool
+  some-overlap = overlap-by (b .processes) (b .node) (s .comes) (b .span)
+
+-- a met row's slot lies in the round
+pub record Slotted (b : PlanIndex) (comes : List ℕ) : Type 0 where
+  pub round-one : 0 < b .round
+  pub round-most : b .round < 4194304
+  pub offsets : (r : ℕ) → (getD comes r 0 ≡ 0 → ⊥) → getD (b .offset) (getD (b .sender) r 0) 0 < 4194304

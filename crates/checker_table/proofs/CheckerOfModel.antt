@@ -22,7 +22,7 @@ use Rattle.model.specs.Log.{full-ticks, delay}
 use Rattle.model.specs.Refusals.{Refusal, nothing, refused, sentence}
 use Rattle.model.specs.Table.{Entry, entries-of}
 use Rattle.model.specs.Checking.{ill-formed, met-log, not-once, uses-unknown, too-early, off-slot, overlap, share-byte, greatest-delay, in-some, table-refusal}
-use Rattle.plan_index.specs.declared.index.PlanIndex.{PlanIndex}
+use Rattle.plan_index.specs.declared.PlanIndex.{PlanIndex}
 use Rattle.checker_table.specs.declared.verdict.Checked.the-variants.{Accepted, Refused}
 use Rattle.checker_table.specs.FirstRefusal.{first-of}
 use Rattle.checker_table.specs.Combinations.{found-by, least, found-all, Tabled}

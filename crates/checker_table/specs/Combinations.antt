@@ -1,36 +1,36 @@
--- What is found in one combination and in all, in the words of a plan's plan index and of the arrays by row of a
--- table's met entries.
+-- What is found in one combination and in all, in the words of a plan's plan index and of the rows of a combination.
 -- Assumes nothing.
 use mathlib.Core.Path.{_≡_}
 use mathlib.Core.Bool.{false}
 use mathlib.Core.List.{List, [], _∷_, map}
 use Prim.Native.Nat.{ℕ, _%_, min}
-use lib.ListN.{length, getD}
-use Rattle.lists.specs.Lists.{if_then_else_, any, below, greatest, fill}
+use lib.ListN.{length}
+use Rattle.lists.specs.Lists.{if_then_else_, any, below, greatest}
 use Rattle.model.specs.Plan.{Lines}
 use Rattle.model.specs.Refusals.{nothing, plan-refusal}
 use Rattle.model.specs.Table.{entries-of}
 use Rattle.model.specs.Checking.{ill-formed}
-use Rattle.plan_index.specs.declared.index.PlanIndex.{PlanIndex}
-use Rattle.plan_index.specs.Indexed.{Indexed}
+use Rattle.log_rows.specs.Rows.{Rows, no-rows}
+use Rattle.plan_index.specs.declared.PlanIndex.{PlanIndex}
+use Rattle.plan_layout.specs.Indexed.{Indexed}
 use Rattle.checker_rows.specs.declared.met.MetRows.{MetRows}
-use Rattle.checker_rows.specs.MetRows.{met-rows, Small}
-use Rattle.checker_rows.specs.Due.{due-of, miscounted-by}
+use Rattle.checker_rows.specs.MetRows.{met-rows, with-met, Small}
+use Rattle.checker_rows.specs.Due.{due-of, with-active, miscounted-by}
 use Rattle.log_queries.specs.Reading.{last-end-by}
 use Rattle.checker_table.specs.FirstRefusal.{first-in}
 use Rattle.checker_table.specs.declared.verdict.Found.{Found}
 
--- which processes are active where these rows are due: 1, or 0
-abbrev pub active-from : List ℕ → ℕ → List ℕ
-active-from due processes = fill 64 (λ i. getD due i 0) processes
+-- the rows of the combination with number c: its met entries, its active processes and its unmet `when`s
+abbrev pub rows-in : PlanIndex → List ℕ → ℕ → Rows
+rows-in b words c = with-met words c (b .span) (with-active b c no-rows)
 
 -- what is found in the combination with number c: 14 to 19, and the delay where 14 finds nothing
 unfoldable pub found-by : PlanIndex → List ℕ → ℕ → Found
 found-by b words c =
-    let m : MetRows = met-rows words c (b .span) in
+    let m : MetRows = met-rows words c in
     if miscounted-by (m .count) (due-of b c) (b .rows)
     then record { first = 14; delay = 0 }
-    else record { first = first-in b m (active-from (due-of b c) (b .processes)) c; delay = last-end-by (m .comes) (b .processes) }
+    else record { first = first-in b (rows-in b words c) (m .known); delay = last-end-by (rows-in b words c .comes) (b .processes) }
 
 -- the least of a number over a list, at most 20
 module _ {A : Type 0} where

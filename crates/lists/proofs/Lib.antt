@@ -3,7 +3,7 @@
 -- after a call), Fill (an array filled one by one), Loops (a loop over the numbers below n), Marks (numbers found
 -- twice), Places (a list by its places), Stores (bytes stored one by one), Parts (a part of a list), Counts (how many a
 -- test keeps), Greatest (the greatest over a loop), Insertion (sorting in an array), Joined (lists joined one after
--- another).
+-- another), Cutting (one of the arrays that stand in a list).
 pub mod Tests
 pub mod Members
 pub mod Keep
@@ -22,3 +22,4 @@ pub mod Counts
 pub mod Greatest
 pub mod Insertion
 pub mod Joined
+pub mod Cutting

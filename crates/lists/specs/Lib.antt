@@ -1,3 +1,4 @@
 pub mod Lists
 pub mod Ordered
 pub mod Front
+pub mod Cut

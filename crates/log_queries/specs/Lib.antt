@@ -1,3 +1,4 @@
 pub mod Reading
 pub mod Holding
 pub mod Hearing
+pub mod Queries

@@ -5,10 +5,13 @@ use crate::readiness::number;
 use arrays::greater;
 use bitset::with_bit;
 use limits::CONDITIONS;
+use log_rows::Rows;
+use log_rows::comes_of;
 ghost use mathlib.Core.Path.{_≡_};
 ghost use Prim.Native.Nat.{_+_, _<_, _≤_};
 ghost use lib.ListN.{length};
-ghost use Rattle.limits.specs.Limits.{CONDITIONS};
+ghost use Rattle.limits.specs.Limits.{CONDITIONS, PROCESSES};
+ghost use Rattle.log_rows.specs.Rows.{rows-of};
 ghost use Rattle.log_queries.specs.Reading.{known-by, last-end-by};
 
 // The mask of six conditions whose values have arrived by the clock, condition 0 the lowest bit, with no loop.
@@ -45,14 +48,14 @@ pub fn known(rows: &[u32], base: usize, conditions: usize, u: u32) -> u32
 
 // The delay of a combination: the tick at which the last of the processes ends, 0 if none is placed. The rows of the
 // processes come first.
-pub fn last_end(rows: &[u32], processes: usize) -> u32
-    requires { ⌜ processes ≤ length (now rows) ⌝ }
-    ensures { λ r. ⌜ r ≡ last-end-by (now (rows .entry)) processes ⌝ }
+pub fn last_end(rows: &Rows, processes: usize) -> u32
+    requires { ⌜ processes ≤ PROCESSES ⌝ }
+    ensures { λ r. ⌜ r ≡ last-end-by (rows-of (now (rows .entry)) .comes) processes ⌝ }
 {
     let mut most: u32 = 0;
     let mut i: usize = 0;
     while i < processes {
-        most = greater(most, rows[i]);
+        most = greater(most, comes_of(rows, i));
         i += 1;
     }
     if most == 0 {

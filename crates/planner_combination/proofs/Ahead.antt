@@ -10,7 +10,7 @@ use lib.Dec.{leb, ltb}
 use lib.ListN.{getD}
 use borrow.Author.Tests.{ltb-true, ltb-false, leb-true, leb-false}
 use Rattle.lists.proofs.Tests.{clash, below-suc}
-use Rattle.planner_slot_times.specs.Clocks.{no-event, sooner-by, come-by}
+use Rattle.planner_sends.specs.Clocks.{no-event, sooner-by, come-by}
 use Rattle.planner_combination.specs.Events.{next-slot, nearer-by, event-by}
 
 -- the earlier of two, by cases

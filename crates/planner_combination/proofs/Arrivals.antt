@@ -14,8 +14,8 @@ use borrow.Author.Tests.{eqb-true, eq-eqb}
 use Rattle.lists.specs.Lists.{if_then_else_}
 use Rattle.lists.proofs.Tests.{below-suc}
 use Rattle.planner_dispatch.proofs.Ends.{set-there}
-use Rattle.planner_pending.proofs.Rows.{set-either}
-use Rattle.planner_pending.specs.Packing.{arrive-all, arrive-one, arrive-each, arrive-by}
+use Rattle.planner_sends.proofs.Rows.{set-either}
+use Rattle.planner_sends.specs.Packing.{arrive-all, arrive-one, arrive-each, arrive-by}
 
 -- an item arrives at every node
 all-either : (end n : ℕ) (s : List ℕ) (k : ℕ) → (getD (arrive-all end n s) k 0 ≡ getD s k 0) ⊎ (getD (arrive-all end n s) k 0 ≡ end)

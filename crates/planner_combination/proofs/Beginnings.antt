@@ -12,7 +12,7 @@ use borrow.Author.Tests.{leb-true, leb-false, le-leb, lt-leb, ltb-true, ltb-fals
 use Rattle.lists.specs.Lists.{if_then_else_}
 use Rattle.lists.proofs.Tests.{two}
 use Rattle.bus_timetable.specs.Bus.{beginning-at}
-use Rattle.plan_index.specs.declared.index.PlanIndex.{PlanIndex}
+use Rattle.plan_index.specs.declared.PlanIndex.{PlanIndex}
 use Rattle.planner_combination.specs.Events.{begins-by, Fits}
 use Rattle.planner_combination.specs.Kept.{Past, past, under-way}
 

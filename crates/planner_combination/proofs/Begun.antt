@@ -17,8 +17,8 @@ use Rattle.planner_dispatch.specs.Starts.{Ends, first-of, end-after, rows-after
 use Rattle.log_queries.proofs.ArrayParts.{part-in}
 use Rattle.planner_dispatch.proofs.Picks.{First, no-first, a-first, the-first, first-none}
 use Rattle.planner_dispatch.proofs.Ends.{set-there}
-use Rattle.planner_pending.proofs.Rows.{set-either}
-use Rattle.plan_index.specs.declared.index.PlanIndex.{PlanIndex}
+use Rattle.planner_sends.proofs.Rows.{set-either}
+use Rattle.plan_index.specs.declared.PlanIndex.{PlanIndex}
 use Rattle.planner_combination.specs.Events.{Fits}
 
 module _ (b : PlanIndex) (f : Fits b) (unmet run : List ℕ) (u : ℕ) where

@@ -12,7 +12,7 @@ use lib.ListN.{getD}
 use borrow.Author.Tests.{eqb-true, eqb-false, eq-eqb}
 use Rattle.lists.specs.Lists.{if_then_else_}
 use Rattle.planner_dispatch.specs.ChangedNodes.{no-end, Soonest}
-use Rattle.planner_slot_times.specs.Clocks.{come-by, ends-now, changes-at}
+use Rattle.planner_sends.specs.Clocks.{come-by, ends-now, changes-at}
 use Rattle.planner_combination.specs.Ending.{Ending}
 use Rattle.planner_combination.proofs.Ahead.{come-busy, come-most, come-below, come-later, ahead}
 

@@ -35,15 +35,15 @@ use Rattle.bus_timetable.specs.Bus.{beginning-at}
 use Rattle.planner_dispatch.specs.Starts.{Ends, starts-by}
 use Rattle.planner_dispatch.proofs.Ends.{busy-later, busy-rows}
 use Rattle.planner_dispatch.proofs.StartsOfModel.{After, starts-link}
-use Rattle.planner_pending.specs.Packing.{Load, send-by, with-broadcast, pending-by}
-use Rattle.planner_pending.specs.Items.{Items}
-use Rattle.planner_pending.proofs.SlotOfModel.{pending-link, send-held, send-short, send-either, send-untold, send-processes}
-use Rattle.plan_index.specs.declared.index.PlanIndex.{PlanIndex}
-use Rattle.plan_index.specs.Indexed.{Indexed}
-use Rattle.planner_slot_times.specs.Clocks.{come-by}
-use Rattle.planner_slot_times.proofs.Firsts.{First, found, missing, first-below}
+use Rattle.planner_sends.specs.Packing.{Load, send-by, with-broadcast, pending-by}
+use Rattle.planner_sends.specs.Items.{Items}
+use Rattle.planner_sends.proofs.SlotOfModel.{pending-link, send-held, send-short, send-either, send-without-broadcast, send-processes}
+use Rattle.plan_index.specs.declared.PlanIndex.{PlanIndex}
+use Rattle.plan_layout.specs.Indexed.{Indexed}
+use Rattle.planner_sends.specs.Clocks.{come-by}
+use Rattle.planner_sends.proofs.Firsts.{First, found, missing, first-below}
 use Rattle.log_queries.specs.Hearing.{heard-by}
-use Rattle.planner_slot_times.specs.NextSends.{pending-in}
+use Rattle.planner_sends.specs.NextSends.{pending-in}
 use Rattle.planner_packing.specs.Slot.{Bus, bus, filled, fill-by}
 use Rattle.planner_combination.specs.Events.{last-event, Moment, begun-by, begins-by, slot-at-by, send-slot-by, next-slot, event-by, hears, begins-with, sends-slot, waiting, moves, next, notes-below, note-by, notes}
 use Rattle.planner_combination.proofs.Ahead.{come-after, come-slotend, come-busy, event-come, event-slot, event-after}
@@ -136,7 +136,7 @@ module _ (p : Lines) (passes : plan-refusal p ≡ nothing) (c : List Bool) (coun
         at false q =
             rw q
             (record {
-              held = subst (λ (l : Log). Held p (l ++ log) (m .comes) (m .place)) (sym (s .resting q)) (s .held);
+              held = subst (λ (l : Log). Held p (l ++ log) (m .comes) (m .place)) (sym (s .no-starts q)) (s .held);
               ends = s .ends;
               came = refl;
               items = λ r l. refl;
@@ -158,19 +158,19 @@ module _ (p : Lines) (passes : plan-refusal p ≡ nothing) (c : List Bool) (coun
       held : Held p (log-at p c (suc t)) (r .comes) (r .place)
       processes : (i : ℕ) → i < length (p .processes) → getD (r .comes) i 0 ≡ getD (e .comes) i 0
       over-stays : (q : ℕ) → getD (r .comes) q 0 ≤ suc t → getD (r .comes) q 0 ≡ getD (e .comes) q 0
-      flying : (q : ℕ) → length (p .processes) ≤ q → (getD (r .comes) q 0 ≤ suc t) ⊎ (getD (r .comes) q 0 ≡ r .slotend)
+      items-sent : (q : ℕ) → length (p .processes) ≤ q → (getD (r .comes) q 0 ≤ suc t) ⊎ (getD (r .comes) q 0 ≡ r .slotend)
       slotend-end : (w : ℕ) → t < w → Slot-end p w (r .slotend)
-      telling : (k : ℕ) → k < length (p .conditions) → (getD (r .comes) (condition-row p k) 0 ≤ suc t) ⊎ (getD (r .comes) (condition-row p k) 0 ≡ r .broadcastend)
+      broadcasts-heard : (k : ℕ) → k < length (p .conditions) → (getD (r .comes) (condition-row p k) 0 ≤ suc t) ⊎ (getD (r .comes) (condition-row p k) 0 ≡ r .broadcastend)
       broadcastend-end : (w : ℕ) → t < w → Slot-end p w (r .broadcastend)
       counts : (n : ℕ) → n < length (p .slots) → getD (r .passed) n 0 ≡ length (keep (eqb n) (before p c (suc t) .passed))
       passed-long : length (r .passed) ≡ 8
 
     -- the items' rows are as before the starts
-    item-flying : (q : ℕ) → length (p .processes) ≤ q → (getD (e .comes) q 0 ≤ suc t) ⊎ (getD (e .comes) q 0 ≡ m .slotend)
-    item-flying q l = subst (λ (x : ℕ). (x ≤ suc t) ⊎ (x ≡ m .slotend)) (sym (started .items q l)) (s .flying q l)
+    item-sent : (q : ℕ) → length (p .processes) ≤ q → (getD (e .comes) q 0 ≤ suc t) ⊎ (getD (e .comes) q 0 ≡ m .slotend)
+    item-sent q l = subst (λ (x : ℕ). (x ≤ suc t) ⊎ (x ≡ m .slotend)) (sym (started .items q l)) (s .items-sent q l)
 
-    item-telling : (k : ℕ) → k < length (p .conditions) → (getD (e .comes) (condition-row p k) 0 ≤ suc t) ⊎ (getD (e .comes) (condition-row p k) 0 ≡ m .broadcastend)
-    item-telling k l = subst (λ (x : ℕ). (x ≤ suc t) ⊎ (x ≡ m .broadcastend)) (sym (started .items (condition-row p k) (omega arith))) (at (s .telling k l))
+    item-broadcast : (k : ℕ) → k < length (p .conditions) → (getD (e .comes) (condition-row p k) 0 ≤ suc t) ⊎ (getD (e .comes) (condition-row p k) 0 ≡ m .broadcastend)
+    item-broadcast k l = subst (λ (x : ℕ). (x ≤ suc t) ⊎ (x ≡ m .broadcastend)) (sym (started .items (condition-row p k) (omega arith))) (at (s .broadcasts-heard k l))
       where
         at : (getD (m .comes) (condition-row p k) 0 ≤ t) ⊎ (getD (m .comes) (condition-row p k) 0 ≡ m .broadcastend) →
             (getD (m .comes) (condition-row p k) 0 ≤ suc t) ⊎ (getD (m .comes) (condition-row p k) 0 ≡ m .broadcastend)
@@ -196,9 +196,9 @@ module _ (p : Lines) (passes : plan-refusal p ≡ nothing) (c : List Bool) (coun
           held = subst (λ (l : Log). Held p l (e .comes) (m .place)) (sym (log-with [] q)) (started .held);
           processes = λ i l. refl;
           over-stays = λ q l. refl;
-          flying = item-flying;
+          items-sent = item-sent;
           slotend-end = λ w l. slot-end-later p t w (m .slotend) (omega arith) (s .slotend-end);
-          telling = item-telling;
+          broadcasts-heard = item-broadcast;
           broadcastend-end = λ w l. slot-end-later p t w (m .broadcastend) (omega arith) (s .broadcastend-end);
           counts = λ n l. s .counts n l ∙ ap (λ (ns : List ℕ). length (keep (eqb n) ns)) (sym (passed-with [] q));
           passed-long = s .passed-long;
@@ -228,8 +228,8 @@ module _ (p : Lines) (passes : plan-refusal p ≡ nothing) (c : List Bool) (coun
       stays-at q x (inl a) = a
       stays-at q x (inr a) = absurd (let y = slot-ticks-one p g sl in-slots in let z = a .0 in omega (arith, lasts))
 
-      flying : (q : ℕ) → length (p .processes) ≤ q → (getD (l .comes) q 0 ≤ suc t) ⊎ (getD (l .comes) q 0 ≡ (if eqb (l .used) 0 then m .slotend else end))
-      flying q x = at (k .rows q) (item-flying q x) (two (eqb (l .used) 0))
+      items-sent : (q : ℕ) → length (p .processes) ≤ q → (getD (l .comes) q 0 ≤ suc t) ⊎ (getD (l .comes) q 0 ≡ (if eqb (l .used) 0 then m .slotend else end))
+      items-sent q x = at (k .rows q) (item-sent q x) (two (eqb (l .used) 0))
         where
           at : (getD (l .comes) q 0 ≡ getD (e .comes) q 0) ⊎ ((getD (l .comes) q 0 ≡ end) × (0 < l .used)) → (getD (e .comes) q 0 ≤ suc t) ⊎ (getD (e .comes) q 0 ≡ m .slotend) →
               (eqb (l .used) 0 ≡ true) ⊎ (eqb (l .used) 0 ≡ false) → (getD (l .comes) q 0 ≤ suc t) ⊎ (getD (l .comes) q 0 ≡ (if eqb (l .used) 0 then m .slotend else end))
@@ -239,8 +239,8 @@ module _ (p : Lines) (passes : plan-refusal p ≡ nothing) (c : List Bool) (coun
           at (inr a) y (inl z) = absurd (let u = eqb-true (l .used) 0 z in let w = a .1 in omega arith)
           at (inr a) y (inr z) = inr (rw z (a .0))
 
-      telling : (j : ℕ) → j < length (p .conditions) → (getD (l .comes) (condition-row p j) 0 ≤ suc t) ⊎ (getD (l .comes) (condition-row p j) 0 ≡ (if broadcastend then end else m .broadcastend))
-      telling j x = at (two broadcastend) (k .rows (condition-row p j)) (item-telling j x)
+      broadcasts-heard : (j : ℕ) → j < length (p .conditions) → (getD (l .comes) (condition-row p j) 0 ≤ suc t) ⊎ (getD (l .comes) (condition-row p j) 0 ≡ (if broadcastend then end else m .broadcastend))
+      broadcasts-heard j x = at (two broadcastend) (k .rows (condition-row p j)) (item-broadcast j x)
         where
           at : (broadcastend ≡ true) ⊎ (broadcastend ≡ false) → (getD (l .comes) (condition-row p j) 0 ≡ getD (e .comes) (condition-row p j) 0) ⊎ ((getD (l .comes) (condition-row p j) 0 ≡ end) × (0 < l .used)) →
               (getD (e .comes) (condition-row p j) 0 ≤ suc t) ⊎ (getD (e .comes) (condition-row p j) 0 ≡ m .broadcastend) →
@@ -294,9 +294,9 @@ module _ (p : Lines) (passes : plan-refusal p ≡ nothing) (c : List Bool) (coun
             held = subst (λ (x : Log). Held p x (l .comes) (l .place)) log-took (k .held);
             processes = k .processes;
             over-stays = λ q x. stays-at q x (k .rows q);
-            flying = flying;
+            items-sent = items-sent;
             slotend-end = slotend-after (eqb (l .used) 0);
-            telling = telling;
+            broadcasts-heard = broadcasts-heard;
             broadcastend-end = broadcast-after broadcastend;
             counts = one-more;
             passed-long = passed-eight (l .short);
@@ -356,7 +356,7 @@ module _ (p : Lines) (passes : plan-refusal p ≡ nothing) (c : List Bool) (coun
               send-short p passes c (b .from) (b .knownby) unmet (b .remote) (b .asany) (b .intofirst) (b .into) h (b .decider) (b .node) (b .bytes) (b .queue) n first last (items n l) first-log (e .comes) (m .place) (started .held) t sl i q room end size z
               ∙ passes-first sl;
           rows = send-either p passes c (b .from) (b .knownby) unmet (b .remote) (b .asany) (b .intofirst) (b .into) h (b .decider) (b .node) (b .bytes) (b .queue) n first last (items n l) first-log (e .comes) (m .place) (started .held) t sl i q room end size z;
-          pending-broadcasts = λ y k x. send-untold p passes c (b .from) (b .knownby) unmet (b .remote) (b .asany) (b .intofirst) (b .into) h (b .decider) (b .node) (b .bytes) (b .queue) n first last (items n l) first-log (e .comes) (m .place) (started .held) t sl i q room end size z y k;
+          pending-broadcasts = λ y k x. send-without-broadcast p passes c (b .from) (b .knownby) unmet (b .remote) (b .asany) (b .intofirst) (b .into) h (b .decider) (b .node) (b .bytes) (b .queue) n first last (items n l) first-log (e .comes) (m .place) (started .held) t sl i q room end size z y k;
           processes = send-processes p passes c (b .from) (b .knownby) unmet (b .remote) (b .asany) (b .intofirst) (b .into) h (b .decider) (b .node) (b .bytes) (b .queue) n first last (items n l) first-log (e .comes) (m .place) (started .held) t sl i q room end size z;
         }))
       where
@@ -429,7 +429,7 @@ module _ (p : Lines) (passes : plan-refusal p ≡ nothing) (c : List Bool) (coun
 
         at : (ltb r (length (p .processes)) ≡ true) ⊎ (ltb r (length (p .processes)) ≡ false) → (getD (after .comes) r 0 ≤ suc t) ⊎ (come ≤ getD (after .comes) r 0)
         at (inl l) = of-process (ltb-true _ _ l) (started .ends .last r (ltb-true _ _ l))
-        at (inr l) = of-item (sending-node .flying r (ltb-false _ _ l))
+        at (inr l) = of-item (sending-node .items-sent r (ltb-false _ _ l))
 
     abbrev later-log : Log
     later-log = log-at p c (suc t)
@@ -536,7 +536,7 @@ module _ (p : Lines) (passes : plan-refusal p ≡ nothing) (c : List Bool) (coun
           broadcastend-apart = eqb-false (after .broadcastend) event x
 
           apart : (k : ℕ) → k < length (p .conditions) → (getD (after .comes) (condition-row p k) 0 ≤ suc t) ⊎ (suc t′ < getD (after .comes) (condition-row p k) 0)
-          apart k l = at (sending-node .telling k l) (clear (condition-row p k))
+          apart k l = at (sending-node .broadcasts-heard k l) (clear (condition-row p k))
             where
               at : (getD (after .comes) (condition-row p k) 0 ≤ suc t) ⊎ (getD (after .comes) (condition-row p k) 0 ≡ after .broadcastend) →
                   (getD (after .comes) (condition-row p k) 0 ≤ suc t) ⊎ (come ≤ getD (after .comes) (condition-row p k) 0) →
@@ -550,9 +550,9 @@ module _ (p : Lines) (passes : plan-refusal p ≡ nothing) (c : List Bool) (coun
               known-same p c (came-by (after .comes) (suc t′)) (came-by (m .comes) (suc t))
               (λ k l. within-between (getD (after .comes) (condition-row p k) 0) (suc t) (suc t′) (omega (arith, on, s .clock)) (apart k l) ∙ ap (λ (d : ℕ → Bool). d (condition-row p k)) came-same)
 
-      resting : eqb come event ≡ false → starts p (view-at p c t′) t′ ≡ []
+      no-starts : eqb come event ≡ false → starts p (view-at p c t′) t′ ≡ []
       unfolding before
-      resting x =
+      no-starts x =
           ap (λ (z : State). starts p (view p c (z .log) t′) t′) settled
           ∙ idle-starts p c t t′ (before p c t) (before p c (suc t)) refl (over-until t′ (omega (arith, on, s .clock)) (let y = eqb-false come event x in omega (arith, not-after, on, y)))
 
@@ -602,7 +602,7 @@ module _ (p : Lines) (passes : plan-refusal p ≡ nothing) (c : List Bool) (coun
               let i : x - 1 ≡ t = omega arith in
               rw a (below-now ∙ rw (row-test ∙ d) (s .counts n w ∙ ap (λ (y : ℕ). length (keep (eqb n) (before p c y .passed))) (sym i)))
           at (inl a) (inr d) = rw a (below-now ∙ rw (row-test ∙ d) (old (let v = eqb-false x (suc t) d in omega (arith, v))))
-          at (inr a) (inl d) = absurd (go (s .telling k l))
+          at (inr a) (inl d) = absurd (go (s .broadcasts-heard k l))
             where
               go : (getD (m .comes) (condition-row p k) 0 ≤ t) ⊎ (getD (m .comes) (condition-row p k) 0 ≡ m .broadcastend) → ⊥
               go (inl v) = absurd (let i = eqb-true x (suc t) d in omega (arith, q))
@@ -624,12 +624,12 @@ module _ (p : Lines) (passes : plan-refusal p ≡ nothing) (c : List Bool) (coun
             clock = omega (arith, on);
             held = subst (λ (z : State). Held p (z .log) (after .comes) (after .place)) (sym settled) (sending-node .held);
             ends = busy-later p (after .comes) (e .busy) (suc t) (suc t′) (omega (arith, on, s .clock)) (busy-rows p (e .comes) (after .comes) (e .busy) (suc t) (sending-node .processes) (started .ends));
-            flying = λ r l. or-later (getD (after .comes) r 0) (after .slotend) (sending-node .flying r l);
+            items-sent = λ r l. or-later (getD (after .comes) r 0) (after .slotend) (sending-node .items-sent r l);
             slotend-end = sending-node .slotend-end t′ (omega (arith, on, s .clock));
-            telling = λ k l. or-before (getD (after .comes) (condition-row p k) 0) (after .broadcastend) (sending-node .telling k l);
+            broadcasts-heard = λ k l. or-before (getD (after .comes) (condition-row p k) 0) (after .broadcastend) (sending-node .broadcasts-heard k l);
             broadcastend-end = sending-node .broadcastend-end t′ (omega (arith, on, s .clock));
             running = running;
-            resting = resting;
+            no-starts = no-starts;
             counts = λ n l. sending-node .counts n l ∙ ap (λ (z : State). length (keep (eqb n) (z .passed))) (sym settled);
             passed-long = sending-node .passed-long;
             noting = λ k l z x n w.

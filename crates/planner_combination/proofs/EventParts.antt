@@ -11,9 +11,9 @@ use lib.ListN.{length, getD, set, length-set}
 use borrow.Author.Tests.{le-leb, lt-leb}
 use Rattle.lists.specs.Lists.{if_then_else_}
 use Rattle.bus_timetable.proofs.Beginnings.{beginning-from}
-use Rattle.planner_pending.specs.Packing.{Load}
-use Rattle.plan_index.specs.declared.index.PlanIndex.{PlanIndex}
-use Rattle.planner_slot_times.specs.Clocks.{come-by}
+use Rattle.planner_sends.specs.Packing.{Load}
+use Rattle.plan_index.specs.declared.PlanIndex.{PlanIndex}
+use Rattle.planner_sends.specs.Clocks.{come-by}
 use Rattle.planner_packing.specs.Slot.{Bus, bus, filled, fill-by}
 use Rattle.planner_combination.specs.Events.{last-event, Moment, slot-at-by, send-slot-by, next-slot, nearer-by, event-by, hears, begins-with, sends-slot, waiting, notes, moves, next, Fits}
 use Rattle.planner_combination.proofs.Ahead.{come-after, event-after}

@@ -18,10 +18,10 @@ use Rattle.lists.proofs.Members.{keep-in, below-in}
 use Rattle.bitset.specs.Masks.{members, mask-from}
 use Rattle.bitset.proofs.Built.{built-members}
 use Rattle.log_queries.specs.Reading.{part}
-use Rattle.planner_pending.specs.Packing.{Load, load, broadcasts-by, waits-by, pending-by, laid, passed, tried, broadcast-all, all-broadcast, try-send, send-all, broadcasts-sent, with-broadcast, send-by}
-use Rattle.planner_pending.proofs.Rows.{set-either}
-use Rattle.planner_pending.proofs.Left.{waits-free, broadcasts-free, send-long}
-use Rattle.planner_slot_times.specs.NextSends.{pending-in}
+use Rattle.planner_sends.specs.Packing.{Load, load, broadcasts-by, waits-by, pending-by, laid, passed, tried, broadcast-all, all-broadcast, try-send, send-all, broadcasts-sent, with-broadcast, send-by}
+use Rattle.planner_sends.proofs.Rows.{set-either}
+use Rattle.planner_sends.proofs.Left.{waits-free, broadcasts-free, send-long}
+use Rattle.planner_sends.specs.NextSends.{pending-in}
 use Rattle.planner_packing.specs.Slot.{Bus, filled, fill-by}
 
 -- the broadcasts of some conditions

@@ -23,13 +23,13 @@ use Rattle.planner_dispatch.specs.Unchanged.{Idle, Unchanged}
 use Rattle.planner_dispatch.specs.ChangedNodes.{Soonest}
 use Rattle.planner_dispatch.proofs.UnchangedNodes.{Alike, idle-stays, starts-idle}
 use Rattle.planner_dispatch.proofs.Ends.{set-there}
-use Rattle.planner_pending.proofs.Left.{placed-row}
-use Rattle.plan_index.specs.declared.index.PlanIndex.{PlanIndex}
-use Rattle.planner_pending.specs.Packing.{arrive-by}
-use Rattle.planner_slot_times.specs.Clocks.{no-event, new-at, sending-node-by, sooner-by, come-by, ends-now, changes-at, event-now}
-use Rattle.planner_slot_times.proofs.Firsts.{First, found, missing, first-below}
+use Rattle.planner_sends.proofs.Left.{placed-row}
+use Rattle.plan_index.specs.declared.PlanIndex.{PlanIndex}
+use Rattle.planner_sends.specs.Packing.{arrive-by}
+use Rattle.planner_sends.specs.Clocks.{no-event, new-at, sending-node-by, sooner-by, come-by, ends-now, changes-at, event-now}
+use Rattle.planner_sends.proofs.Firsts.{First, found, missing, first-below}
 use Rattle.log_queries.specs.Hearing.{heard-by}
-use Rattle.planner_slot_times.specs.NextSends.{next-send-from, update-below, update-by, Waiting, Roomy, Updated-all}
+use Rattle.planner_sends.specs.NextSends.{next-send-from, update-below, update-by, Waiting, Roomy, Updated-all}
 use Rattle.planner_packing.specs.Slot.{Bus, bus, fill-by}
 use Rattle.planner_combination.specs.Events.{last-event, Moment, moment, begins-by, begun-by, next-slot, event-by, hears, begins-with, sends-slot, waiting, messages, notes, next, Fits}
 use Rattle.planner_combination.specs.Kept.{Past, past, under-way, Kept, Queued, Begins}
@@ -42,7 +42,7 @@ use Rattle.planner_combination.proofs.Begun.{Started, as-before, starti
 use Rattle.planner_combination.proofs.Pending.{came-same, came-grown, Same, pending-same, waiting-same}
 use Rattle.planner_combination.proofs.Arrivals.{arrive-either, arrive-long, arrive-broadcast, arrive-reaches}
 use Rattle.planner_combination.proofs.EventParts.{next-parts}
-use Rattle.planner_combination.proofs.NextSends.{Updated, attended, event-same, Chosen, nobody, somebody, sends-slot-chosen}
+use Rattle.planner_combination.proofs.NextSends.{Updated, updated, event-same, Chosen, nobody, somebody, sends-slot-chosen}
 
 -- a choice by whether a node is the number of slots
 module _ {A : Type 0} (n slots : ℕ) {x : A} (y z : A) where
@@ -89,8 +89,8 @@ module _ (b : PlanIndex) (f : Fits b) (unmet : List ℕ) where
         sends = λ e n j q. inl (s .items-past (b .processes + e) (omega arith));
         ends-last = s .ends-last;
         idle = λ n j z d. absurd (d (at n j));
-        dues = λ n j d e. absurd (d refl);
-        dues-past = λ n j m. ap (λ (xs : List ℕ). getD xs n 0) dq ∙ each-at 8 no-event n m;
+        next-sends = λ n j d e. absurd (d refl);
+        next-sends-past = λ n j m. ap (λ (xs : List ℕ). getD xs n 0) dq ∙ each-at 8 no-event n m;
         busy-long = s .busy-long;
         lastarrival-long = ap length sq ∙ length-replicate {A = ℕ} 8 u;
         nextsend-long = ap length dq ∙ length-replicate {A = ℕ} 8 no-event;
@@ -183,27 +183,27 @@ module _ (b : PlanIndex) (f : Fits b) (unmet : List ℕ) where
 
     -- what is looked at as the event begins
     module _ (new : ℕ) (new-is : m .come ≡ m .u → (n : ℕ) → n < 8 → bit new n ≡ new-at lastarrival (m .busy) (m .u) n) (ends : ℕ) (ending : Ending (b .slots) (m .u) (m .busy) ends) (look : ℕ) (look-is : look ≡ changes-at (m .broadcastend) ends (m .u))
-        (due₁ : List ℕ) (update-is : due₁ ≡ update-by (m .broadcastend) (m .u) (waiting b unmet (m .comes) (m .u)) (m .busy) (b .round) (b .offset) look (b .slots) nextsend) where
-      abbrev due-now : ℕ → ℕ
-      due-now i = next-send-from (b .round) (getD (b .offset) i 0) (m .u - 1) (pend i)
+        (nextsend₁ : List ℕ) (update-is : nextsend₁ ≡ update-by (m .broadcastend) (m .u) (waiting b unmet (m .comes) (m .u)) (m .busy) (b .round) (b .offset) look (b .slots) nextsend) where
+      abbrev next-now : ℕ → ℕ
+      next-now i = next-send-from (b .round) (getD (b .offset) i 0) (m .u - 1) (pend i)
 
       record Looked (s : List ℕ) : Type 0 where
-        right : (i : ℕ) → i < b .slots → getD s i 0 ≡ due-now i
+        right : (i : ℕ) → i < b .slots → getD s i 0 ≡ next-now i
         beyond : (i : ℕ) → b .slots ≤ i → getD s i 0 ≡ getD nextsend i 0
         eight : length s ≡ 8
 
-      looked : Looked due₁
+      looked : Looked nextsend₁
       unfolding update-by
       looked = subst Looked (sym update-is) (at (two (eqb look (m .u))))
         where
           a : Updated (m .broadcastend) (m .u) pend (m .busy) (b .round) (b .offset) nextsend (k .nextsend-long) (b .slots) (update-below (m .broadcastend) (m .u) pend (m .busy) (b .round) (b .offset) (b .slots) nextsend)
-          a = attended (m .broadcastend) (m .u) pend (m .busy) (b .round) (b .offset) nextsend (k .nextsend-long) (b .slots) (f .few-slots)
+          a = updated (m .broadcastend) (m .u) pend (m .busy) (b .round) (b .offset) nextsend (k .nextsend-long) (b .slots) (f .few-slots)
 
-          found : (i : ℕ) → i < b .slots → (c : Bool) → (eqb (m .broadcastend) (m .u) || eqb (getD (m .busy) i 0) (m .u)) ≡ c → (if c then due-now i else getD nextsend i 0) ≡ due-now i
+          found : (i : ℕ) → i < b .slots → (c : Bool) → (eqb (m .broadcastend) (m .u) || eqb (getD (m .busy) i 0) (m .u)) ≡ c → (if c then next-now i else getD nextsend i 0) ≡ next-now i
           found i l true e = refl
           found i l false e =
               let n = neither (eqb (m .broadcastend) (m .u)) (eqb (getD (m .busy) i 0) (m .u)) e in
-              k .dues i l (eqb-false _ _ (n .0)) (eqb-false _ _ (n .1))
+              k .next-sends i l (eqb-false _ _ (n .0)) (eqb-false _ _ (n .1))
 
           at : (eqb look (m .u) ≡ true) ⊎ (eqb look (m .u) ≡ false) →
               Looked (if eqb look (m .u) then update-below (m .broadcastend) (m .u) pend (m .busy) (b .round) (b .offset) (b .slots) nextsend else nextsend)
@@ -218,14 +218,14 @@ module _ (b : PlanIndex) (f : Fits b) (unmet : List ℕ) where
               let d = unchanged (b .slots) (m .u) (m .busy) ends ending (m .broadcastend) (λ q. eqb-false _ _ e (look-is ∙ q)) in
               subst (λ (c : Bool). Looked (if c then update-below (m .broadcastend) (m .u) pend (m .busy) (b .round) (b .offset) (b .slots) nextsend else nextsend)) (sym e)
               (record {
-                right = λ i l. k .dues i l (d .0) (d .1 i l);
+                right = λ i l. k .next-sends i l (d .0) (d .1 i l);
                 beyond = λ i l. refl;
                 eight = k .nextsend-long;
               })
 
       -- the node that sends
-      module _ (low : m .u ≤ last-event) (n : ℕ) (sending-node-is : n ≡ sending-node-by due₁ (m .u) (b .slots)) where
-        nextsend-slot : (i : ℕ) → i < b .slots → getD due₁ i 0 ≡ m .u → begins-by (b .round) (b .offset) (m .u - 1) i ≡ true
+      module _ (low : m .u ≤ last-event) (n : ℕ) (sending-node-is : n ≡ sending-node-by nextsend₁ (m .u) (b .slots)) where
+        nextsend-slot : (i : ℕ) → i < b .slots → getD nextsend₁ i 0 ≡ m .u → begins-by (b .round) (b .offset) (m .u - 1) i ≡ true
         unfolding next-send-from begins-by
         nextsend-slot i l q = at (pend i) (sym (looked .right i l) ∙ q)
           where
@@ -234,23 +234,23 @@ module _ (b : PlanIndex) (f : Fits b) (unmet : List ℕ) where
             at false e = absurd (omega (arith, e, low))
 
         -- a slot that begins now, with an item pending, is due
-        slot-nextsend : (i : ℕ) → i < b .slots → begins-by (b .round) (b .offset) (m .u - 1) i ≡ true → pend i ≡ true → getD due₁ i 0 ≡ m .u
+        slot-nextsend : (i : ℕ) → i < b .slots → begins-by (b .round) (b .offset) (m .u - 1) i ≡ true → pend i ≡ true → getD nextsend₁ i 0 ≡ m .u
         unfolding next-send-from begins-by
         slot-nextsend i l t e =
             let z : beginning-at (b .round) (getD (b .offset) i 0) (m .u - 1) ≡ m .u - 1 = eqb-true _ _ t in
             looked .right i l ∙ ap (next-send-from (b .round) (getD (b .offset) i 0) (m .u - 1)) e ∙ omega (arith, z, k .from-one)
 
         data One : Type 0 where
-          none-nextsend : n ≡ b .slots → ((i : ℕ) → i < b .slots → getD due₁ i 0 ≡ m .u → ⊥) → One
-          one-nextsend : n < b .slots → getD due₁ n 0 ≡ m .u → One
+          none-nextsend : n ≡ b .slots → ((i : ℕ) → i < b .slots → getD nextsend₁ i 0 ≡ m .u → ⊥) → One
+          one-nextsend : n < b .slots → getD nextsend₁ n 0 ≡ m .u → One
 
         one : One
         unfolding sending-node-by
-        one = at (first-below (b .slots) (λ i. eqb (getD due₁ i 0) (m .u)))
+        one = at (first-below (b .slots) (λ i. eqb (getD nextsend₁ i 0) (m .u)))
           where
-            at : First (b .slots) (λ i. eqb (getD due₁ i 0) (m .u)) → One
+            at : First (b .slots) (λ i. eqb (getD nextsend₁ i 0) (m .u)) → One
             at (missing h e) = none-nextsend (sending-node-is ∙ e) (λ i l. eqb-false _ _ (h i l))
-            at (found i l t e) = let q : n ≡ i = sending-node-is ∙ e in one-nextsend (omega (arith, q)) (ap (λ (x : ℕ). getD due₁ x 0) q ∙ eqb-true _ _ t)
+            at (found i l t e) = let q : n ≡ i = sending-node-is ∙ e in one-nextsend (omega (arith, q)) (ap (λ (x : ℕ). getD nextsend₁ x 0) q ∙ eqb-true _ _ t)
 
         pub node-low : n ≤ b .slots
         node-low = at one
@@ -504,8 +504,8 @@ module _ (b : PlanIndex) (f : Fits b) (unmet : List ℕ) where
                 waiting-same (b .processes) (b .conditionrow) (b .conditions) (b .decider) (b .node) (b .queuefirst) (b .queue) (b .from) (b .knownby) unmet i (m .u) (m .u) (m .comes) comes (same-comes i l d)
 
             -- and what is kept goes on from there
-            module _ (stirred₁ due₂ : List ℕ) (lastarrival-is : stirred₁ ≡ (if eqb n (b .slots) then lastarrival else arrive-by (b .processes) (b .remote) comes end (b .slots) heard (edges-of n) lastarrival))
-                (nextsend-is : due₂ ≡ (if eqb n (b .slots) then due₁ else set due₁ n (next-send-from (b .round) (getD (b .offset) n 0) (m .u) (waiting b unmet comes (m .u) n)))) where
+            module _ (lastarrival₁ nextsend₂ : List ℕ) (lastarrival-is : lastarrival₁ ≡ (if eqb n (b .slots) then lastarrival else arrive-by (b .processes) (b .remote) comes end (b .slots) heard (edges-of n) lastarrival))
+                (nextsend-is : nextsend₂ ≡ (if eqb n (b .slots) then nextsend₁ else set nextsend₁ n (next-send-from (b .round) (getD (b .offset) n 0) (m .u) (waiting b unmet comes (m .u) n)))) where
               abbrev arrive : List ℕ
               arrive = arrive-by (b .processes) (b .remote) comes end (b .slots) heard (edges-of n) lastarrival
 
@@ -529,32 +529,32 @@ module _ (b : PlanIndex) (f : Fits b) (unmet : List ℕ) where
                   at (broadcastend l c w d q z h s y) = y
                   at (sent l x w q z h y) = y
 
-              lastarrival-either : (i : ℕ) → i < b .slots → (getD stirred₁ i 0 ≡ getD lastarrival i 0) ⊎ ((n < b .slots) × (getD stirred₁ i 0 ≡ end) × (slotend ≡ end))
+              lastarrival-either : (i : ℕ) → i < b .slots → (getD lastarrival₁ i 0 ≡ getD lastarrival i 0) ⊎ ((n < b .slots) × (getD lastarrival₁ i 0 ≡ end) × (slotend ≡ end))
               lastarrival-either i l = at some-or-none
                 where
                   by : n < b .slots → (getD arrive i 0 ≡ getD lastarrival i 0) ⊎ ((getD arrive i 0 ≡ end) × ((heard ≡ end) ⊎ ((e : ℕ) × In e (edges-of n) × (getD comes (b .processes + e) 0 ≡ end)))) →
-                      getD stirred₁ i 0 ≡ getD arrive i 0 → (getD stirred₁ i 0 ≡ getD lastarrival i 0) ⊎ ((n < b .slots) × (getD stirred₁ i 0 ≡ end) × (slotend ≡ end))
+                      getD lastarrival₁ i 0 ≡ getD arrive i 0 → (getD lastarrival₁ i 0 ≡ getD lastarrival i 0) ⊎ ((n < b .slots) × (getD lastarrival₁ i 0 ≡ end) × (slotend ≡ end))
                   by o (inl q) e = inl (e ∙ q)
                   by o (inr q) e = inr (o, e ∙ q .0, used-by o (q .1))
 
-                  at : (n < b .slots) ⊎ (n ≡ b .slots) → (getD stirred₁ i 0 ≡ getD lastarrival i 0) ⊎ ((n < b .slots) × (getD stirred₁ i 0 ≡ end) × (slotend ≡ end))
+                  at : (n < b .slots) ⊎ (n ≡ b .slots) → (getD lastarrival₁ i 0 ≡ getD lastarrival i 0) ⊎ ((n < b .slots) × (getD lastarrival₁ i 0 ≡ end) × (slotend ≡ end))
                   at (inr q) = inl (ap (broadcast-of i) (no-slot n (b .slots) lastarrival arrive q lastarrival-is))
                   at (inl o) =
                       by o (arrive-either (b .processes) (b .remote) comes end (b .slots) heard (edges-of n) lastarrival i) (ap (broadcast-of i) (a-slot n (b .slots) lastarrival arrive o lastarrival-is))
 
-              lastarrival-all : n < b .slots → heard ≡ end → (i : ℕ) → i < b .slots → getD stirred₁ i 0 ≡ end
+              lastarrival-all : n < b .slots → heard ≡ end → (i : ℕ) → i < b .slots → getD lastarrival₁ i 0 ≡ end
               lastarrival-all o q i l =
                   ap (broadcast-of i) (a-slot n (b .slots) lastarrival arrive o lastarrival-is) ∙ arrive-broadcast (b .processes) (b .remote) comes end (b .slots) heard (edges-of n) lastarrival q lastarrival-room i l
 
-              lastarrival-reach : n < b .slots → (e i : ℕ) → In e (edges-of n) → getD comes (b .processes + e) 0 ≡ end → getD (b .remote) e 0 ≡ suc i → i < b .slots → getD stirred₁ i 0 ≡ end
+              lastarrival-reach : n < b .slots → (e i : ℕ) → In e (edges-of n) → getD comes (b .processes + e) 0 ≡ end → getD (b .remote) e 0 ≡ suc i → i < b .slots → getD lastarrival₁ i 0 ≡ end
               lastarrival-reach o e i w q r l =
                   ap (broadcast-of i) (a-slot n (b .slots) lastarrival arrive o lastarrival-is)
                   ∙ arrive-reaches (b .processes) (b .remote) comes end (b .slots) heard (edges-of n) lastarrival lastarrival-room e i w q r l
 
-              lastarrival-eight : length stirred₁ ≡ 8
+              lastarrival-eight : length lastarrival₁ ≡ 8
               lastarrival-eight = at some-or-none
                 where
-                  at : (n < b .slots) ⊎ (n ≡ b .slots) → length stirred₁ ≡ 8
+                  at : (n < b .slots) ⊎ (n ≡ b .slots) → length lastarrival₁ ≡ 8
                   at (inr q) = ap length (no-slot n (b .slots) lastarrival arrive q lastarrival-is) ∙ k .lastarrival-long
                   at (inl o) = ap length (a-slot n (b .slots) lastarrival arrive o lastarrival-is) ∙ arrive-long (b .processes) (b .remote) comes end (b .slots) heard (edges-of n) lastarrival ∙ k .lastarrival-long
 
@@ -566,10 +566,10 @@ module _ (b : PlanIndex) (f : Fits b) (unmet : List ℕ) where
                   at (inl q) = carried (subst (λ (x : ℕ). (x ≤ m .u) ⊎ (x ≡ m .slotend)) (sym q) (k .broadcast-with))
                   at (inr q) = inr (q .1 ∙ sym (q .2))
 
-              lastarrival-carried : (i : ℕ) → i < b .slots → (getD stirred₁ i 0 ≤ m .u) ⊎ (getD stirred₁ i 0 ≡ slotend)
+              lastarrival-carried : (i : ℕ) → i < b .slots → (getD lastarrival₁ i 0 ≤ m .u) ⊎ (getD lastarrival₁ i 0 ≡ slotend)
               lastarrival-carried i l = at (lastarrival-either i l)
                 where
-                  at : (getD stirred₁ i 0 ≡ getD lastarrival i 0) ⊎ ((n < b .slots) × (getD stirred₁ i 0 ≡ end) × (slotend ≡ end)) → (getD stirred₁ i 0 ≤ m .u) ⊎ (getD stirred₁ i 0 ≡ slotend)
+                  at : (getD lastarrival₁ i 0 ≡ getD lastarrival i 0) ⊎ ((n < b .slots) × (getD lastarrival₁ i 0 ≡ end) × (slotend ≡ end)) → (getD lastarrival₁ i 0 ≤ m .u) ⊎ (getD lastarrival₁ i 0 ≡ slotend)
                   at (inl q) = carried (subst (λ (x : ℕ). (x ≤ m .u) ⊎ (x ≡ m .slotend)) (sym q) (k .lastarrival-with i l))
                   at (inr q) = inr (q .1 ∙ sym (q .2))
 
@@ -578,11 +578,11 @@ module _ (b : PlanIndex) (f : Fits b) (unmet : List ℕ) where
               items-carried r l (broadcastend o c w d q z e h y) = inr (e ∙ sym y)
               items-carried r l (sent o e w q z h y) = inr (h ∙ sym y)
 
-              broadcast-lastarrival : (i : ℕ) → i < b .slots → (heard ≤ m .u) ⊎ (getD stirred₁ i 0 ≡ heard)
+              broadcast-lastarrival : (i : ℕ) → i < b .slots → (heard ≤ m .u) ⊎ (getD lastarrival₁ i 0 ≡ heard)
               broadcast-lastarrival i l = at heard-either (lastarrival-either i l) (k .broadcast-arrivals i l)
                 where
-                  at : (heard ≡ m .broadcastend) ⊎ ((n < b .slots) × (heard ≡ end) × (slotend ≡ end)) → (getD stirred₁ i 0 ≡ getD lastarrival i 0) ⊎ ((n < b .slots) × (getD stirred₁ i 0 ≡ end) × (slotend ≡ end)) →
-                      (m .broadcastend < m .u) ⊎ (getD lastarrival i 0 ≡ m .broadcastend) → (heard ≤ m .u) ⊎ (getD stirred₁ i 0 ≡ heard)
+                  at : (heard ≡ m .broadcastend) ⊎ ((n < b .slots) × (heard ≡ end) × (slotend ≡ end)) → (getD lastarrival₁ i 0 ≡ getD lastarrival i 0) ⊎ ((n < b .slots) × (getD lastarrival₁ i 0 ≡ end) × (slotend ≡ end)) →
+                      (m .broadcastend < m .u) ⊎ (getD lastarrival i 0 ≡ m .broadcastend) → (heard ≤ m .u) ⊎ (getD lastarrival₁ i 0 ≡ heard)
                   at (inl q) s (inl z) = inl (omega arith)
                   at (inl q) (inl s) (inr z) = inr (s ∙ z ∙ sym q)
                   at (inl q) (inr s) (inr z) = inl (omega (arith, q, arrived (s .0) (k .broadcast-with)))
@@ -602,7 +602,7 @@ module _ (b : PlanIndex) (f : Fits b) (unmet : List ℕ) where
                   at (inr z) (inl e) = inr (p ∙ z ∙ sym e)
                   at (inr z) (inr e) = inl (omega (arith, p, z, arrived (e .0) (k .broadcast-with)))
 
-              sends-arrive : (e i : ℕ) → i < b .slots → getD (b .remote) e 0 ≡ suc i → Item (b .processes + e) → (getD comes (b .processes + e) 0 ≤ m .u) ⊎ (getD comes (b .processes + e) 0 ≡ getD stirred₁ i 0)
+              sends-arrive : (e i : ℕ) → i < b .slots → getD (b .remote) e 0 ≡ suc i → Item (b .processes + e) → (getD comes (b .processes + e) 0 ≤ m .u) ⊎ (getD comes (b .processes + e) 0 ≡ getD lastarrival₁ i 0)
               sends-arrive e i l r (broadcastend o x w d q z h s y) = absurd (omega (arith, f .remote-row e (omega arith)))
               sends-arrive e i l r (sent o x w q z h y) =
                   let v : x ≡ e = omega arith in
@@ -613,8 +613,8 @@ module _ (b : PlanIndex) (f : Fits b) (unmet : List ℕ) where
                   p = q ∙ item-row (b .processes + e) (omega arith)
 
                   at : (getD (m .comes) (b .processes + e) 0 ≤ m .u) ⊎ (getD (m .comes) (b .processes + e) 0 ≡ getD lastarrival i 0) →
-                      (getD stirred₁ i 0 ≡ getD lastarrival i 0) ⊎ ((n < b .slots) × (getD stirred₁ i 0 ≡ end) × (slotend ≡ end)) →
-                      (getD comes (b .processes + e) 0 ≤ m .u) ⊎ (getD comes (b .processes + e) 0 ≡ getD stirred₁ i 0)
+                      (getD lastarrival₁ i 0 ≡ getD lastarrival i 0) ⊎ ((n < b .slots) × (getD lastarrival₁ i 0 ≡ end) × (slotend ≡ end)) →
+                      (getD comes (b .processes + e) 0 ≤ m .u) ⊎ (getD comes (b .processes + e) 0 ≡ getD lastarrival₁ i 0)
                   at (inl z) s = inl (omega (arith, p))
                   at (inr z) (inl s) = inr (p ∙ z ∙ sym s)
                   at (inr z) (inr s) = inl (omega (arith, p, z, arrived (s .0) (k .lastarrival-with i l)))
@@ -635,38 +635,38 @@ module _ (b : PlanIndex) (f : Fits b) (unmet : List ℕ) where
                   at (as-before q) (inr s) (inr e) = inl (omega (arith, p, q, e .0))
 
               -- when the slots take their items from here on
-              nextsend-other : (i : ℕ) → (i ≡ n → ⊥) → getD due₂ i 0 ≡ getD due₁ i 0
+              nextsend-other : (i : ℕ) → (i ≡ n → ⊥) → getD nextsend₂ i 0 ≡ getD nextsend₁ i 0
               nextsend-other i d = at some-or-none
                 where
                   x : ℕ
                   x = next-send-from (b .round) (getD (b .offset) n 0) (m .u) (waiting b unmet comes (m .u) n)
 
-                  at : (n < b .slots) ⊎ (n ≡ b .slots) → getD due₂ i 0 ≡ getD due₁ i 0
-                  at (inr e) = ap (broadcast-of i) (no-slot n (b .slots) due₁ (set due₁ n x) e nextsend-is)
-                  at (inl o) = ap (broadcast-of i) (a-slot n (b .slots) due₁ (set due₁ n x) o nextsend-is) ∙ getD-set-other due₁ n i x 0 d
+                  at : (n < b .slots) ⊎ (n ≡ b .slots) → getD nextsend₂ i 0 ≡ getD nextsend₁ i 0
+                  at (inr e) = ap (broadcast-of i) (no-slot n (b .slots) nextsend₁ (set nextsend₁ n x) e nextsend-is)
+                  at (inl o) = ap (broadcast-of i) (a-slot n (b .slots) nextsend₁ (set nextsend₁ n x) o nextsend-is) ∙ getD-set-other nextsend₁ n i x 0 d
 
-              nextsend-eight : length due₂ ≡ 8
+              nextsend-eight : length nextsend₂ ≡ 8
               nextsend-eight = at some-or-none
                 where
                   x : ℕ
                   x = next-send-from (b .round) (getD (b .offset) n 0) (m .u) (waiting b unmet comes (m .u) n)
 
-                  at : (n < b .slots) ⊎ (n ≡ b .slots) → length due₂ ≡ 8
-                  at (inr e) = ap length (no-slot n (b .slots) due₁ (set due₁ n x) e nextsend-is) ∙ looked .eight
-                  at (inl o) = ap length (a-slot n (b .slots) due₁ (set due₁ n x) o nextsend-is) ∙ length-set due₁ n x ∙ looked .eight
+                  at : (n < b .slots) ⊎ (n ≡ b .slots) → length nextsend₂ ≡ 8
+                  at (inr e) = ap length (no-slot n (b .slots) nextsend₁ (set nextsend₁ n x) e nextsend-is) ∙ looked .eight
+                  at (inl o) = ap length (a-slot n (b .slots) nextsend₁ (set nextsend₁ n x) o nextsend-is) ∙ length-set nextsend₁ n x ∙ looked .eight
 
-              nextsend-beyond : (i : ℕ) → b .slots ≤ i → i < 8 → getD due₂ i 0 ≡ no-event
+              nextsend-beyond : (i : ℕ) → b .slots ≤ i → i < 8 → getD nextsend₂ i 0 ≡ no-event
               nextsend-beyond i l h = at some-or-none
                 where
                   x : ℕ
                   x = next-send-from (b .round) (getD (b .offset) n 0) (m .u) (waiting b unmet comes (m .u) n)
 
-                  at : (n < b .slots) ⊎ (n ≡ b .slots) → getD due₂ i 0 ≡ no-event
-                  at (inr e) = ap (broadcast-of i) (no-slot n (b .slots) due₁ (set due₁ n x) e nextsend-is) ∙ looked .beyond i l ∙ k .dues-past i l h
-                  at (inl o) = nextsend-other i (λ z. omega (arith, z)) ∙ looked .beyond i l ∙ k .dues-past i l h
+                  at : (n < b .slots) ⊎ (n ≡ b .slots) → getD nextsend₂ i 0 ≡ no-event
+                  at (inr e) = ap (broadcast-of i) (no-slot n (b .slots) nextsend₁ (set nextsend₁ n x) e nextsend-is) ∙ looked .beyond i l ∙ k .next-sends-past i l h
+                  at (inl o) = nextsend-other i (λ z. omega (arith, z)) ∙ looked .beyond i l ∙ k .next-sends-past i l h
 
               -- a slot that is not the one that sends next takes an item after this event
-              not-now : (i : ℕ) → i < b .slots → (i ≡ n → ⊥) → getD due₁ i 0 ≡ m .u → ⊥
+              not-now : (i : ℕ) → i < b .slots → (i ≡ n → ⊥) → getD nextsend₁ i 0 ≡ m .u → ⊥
               not-now i l d q = at one
                 where
                   at : One → ⊥
@@ -681,16 +681,16 @@ module _ (b : PlanIndex) (f : Fits b) (unmet : List ℕ) where
                   let v : beginning-at (b .round) (getD (b .offset) i 0) (m .u - 1) + 1 ≡ m .u → ⊥ = λ q. not-now i l d (looked .right i l ∙ ap (next-send-from (b .round) (getD (b .offset) i 0) (m .u - 1)) e ∙ q) in
                   ap (λ (x : ℕ). x + 1) (sym (beginning-same (b .round) (getD (b .offset) i 0) (f .offset-less i l) (m .u - 1) (m .u) (omega arith) (omega (arith, z, v, k .from-one))))
 
-              nextsend-then : (i : ℕ) → i < b .slots → getD due₂ i 0 ≡ next-send-from (b .round) (getD (b .offset) i 0) (m .u) (waiting b unmet comes (m .u) i)
+              nextsend-then : (i : ℕ) → i < b .slots → getD nextsend₂ i 0 ≡ next-send-from (b .round) (getD (b .offset) i 0) (m .u) (waiting b unmet comes (m .u) i)
               nextsend-then i l = at (two (eqb i n))
                 where
                   x : ℕ
                   x = next-send-from (b .round) (getD (b .offset) n 0) (m .u) (waiting b unmet comes (m .u) n)
 
-                  at : (eqb i n ≡ true) ⊎ (eqb i n ≡ false) → getD due₂ i 0 ≡ next-send-from (b .round) (getD (b .offset) i 0) (m .u) (waiting b unmet comes (m .u) i)
+                  at : (eqb i n ≡ true) ⊎ (eqb i n ≡ false) → getD nextsend₂ i 0 ≡ next-send-from (b .round) (getD (b .offset) i 0) (m .u) (waiting b unmet comes (m .u) i)
                   at (inl e) =
                       let z : i ≡ n = eqb-true i n e in
-                      ap (broadcast-of i) (a-slot n (b .slots) due₁ (set due₁ n x) (omega (arith, z)) nextsend-is) ∙ set-there due₁ n i x (omega (arith, z, looked .eight, f .few-slots)) z
+                      ap (broadcast-of i) (a-slot n (b .slots) nextsend₁ (set nextsend₁ n x) (omega (arith, z)) nextsend-is) ∙ set-there nextsend₁ n i x (omega (arith, z, looked .eight, f .few-slots)) z
                       ∙ ap (λ (j : ℕ). next-send-from (b .round) (getD (b .offset) j 0) (m .u) (waiting b unmet comes (m .u) j)) (sym z)
                   at (inr e) =
                       let d : i ≡ n → ⊥ = eqb-false i n e in
@@ -698,7 +698,7 @@ module _ (b : PlanIndex) (f : Fits b) (unmet : List ℕ) where
 
               -- the next event
               module _ (first : ℕ) (soonest : length (m .busy) ≡ 8 → Soonest (b .slots) (m .u) (m .busy) busy first) (ends₁ come u : ℕ)
-                  (ends-is : ends₁ ≡ ends-now ends first busy (m .u) (b .slots)) (come-is : come ≡ sooner-by ends₁ slotend (m .u)) (u-is : u ≡ event-now due₂ come 8) where
+                  (ends-is : ends₁ ≡ ends-now ends first busy (m .u) (b .slots)) (come-is : come ≡ sooner-by ends₁ slotend (m .u)) (u-is : u ≡ event-now nextsend₂ come 8) where
                 ends-next : ends₁ ≡ come-by 0 busy (m .u) (b .slots)
                 ends-next = ends-is ∙ ends-right (b .slots) (m .u) (m .busy) ends ending busy first (g .ends) (soonest (k .busy-long))
 
@@ -708,7 +708,7 @@ module _ (b : PlanIndex) (f : Fits b) (unmet : List ℕ) where
                 pub event-is : u ≡ event-by (waiting b unmet comes (m .u)) (b .round) (b .offset) (m .u) come (b .slots)
                 event-is =
                     u-is
-                    ∙ event-same (waiting b unmet comes (m .u)) (b .round) (b .offset) (m .u) come due₂ (omega (arith, come-right, come-most slotend busy (m .u) (b .slots))) (b .slots) (f .few-slots) nextsend-then nextsend-beyond
+                    ∙ event-same (waiting b unmet comes (m .u)) (b .round) (b .offset) (m .u) come nextsend₂ (omega (arith, come-right, come-most slotend busy (m .u) (b .slots))) (b .slots) (f .few-slots) nextsend-then nextsend-beyond
 
                 later : m .u < u
                 unfolding next-slot
@@ -797,7 +797,7 @@ module _ (b : PlanIndex) (f : Fits b) (unmet : List ℕ) where
                     wait-still = waiting-same (b .processes) (b .conditionrow) (b .conditions) (b .decider) (b .node) (b .queuefirst) (b .queue) (b .from) (b .knownby) unmet i (m .u) u comes comes same-still
 
                   -- nothing that its processes wait for comes
-                  module _ (free : getD busy i 0 ≤ m .u) (calm : (getD stirred₁ i 0 ≤ m .u) ⊎ (u < getD stirred₁ i 0)) (j : ℕ) (lo : getD (b .dispatchfirst) i 0 ≤ j) (hi : j < getD (b .dispatchfirst) (i + 1) 0) where
+                  module _ (free : getD busy i 0 ≤ m .u) (calm : (getD lastarrival₁ i 0 ≤ m .u) ⊎ (u < getD lastarrival₁ i 0)) (j : ℕ) (lo : getD (b .dispatchfirst) i 0 ≤ j) (hi : j < getD (b .dispatchfirst) (i + 1) 0) where
                     abbrev it : ℕ
                     it = getD (b .dispatch) j 0
 
@@ -816,7 +816,7 @@ module _ (b : PlanIndex) (f : Fits b) (unmet : List ℕ) where
                     arrived-row : (e : ℕ) → In e (edges-into (b .intofirst) (b .into) it) → eqb (getD (b .remote) e 0) 0 ≡ false → (getD comes (b .processes + e) 0 ≤ m .u) ⊎ (u < getD comes (b .processes + e) 0)
                     arrived-row e w t = at (getD (b .remote) e 0) refl
                       where
-                        by : (getD comes (b .processes + e) 0 ≤ m .u) ⊎ (getD comes (b .processes + e) 0 ≡ getD stirred₁ i 0) → (getD stirred₁ i 0 ≤ m .u) ⊎ (u < getD stirred₁ i 0) →
+                        by : (getD comes (b .processes + e) 0 ≤ m .u) ⊎ (getD comes (b .processes + e) 0 ≡ getD lastarrival₁ i 0) → (getD lastarrival₁ i 0 ≤ m .u) ⊎ (u < getD lastarrival₁ i 0) →
                             (getD comes (b .processes + e) 0 ≤ m .u) ⊎ (u < getD comes (b .processes + e) 0)
                         by (inl z) h = inl z
                         by (inr z) (inl h) = inl (omega (arith, z))
@@ -875,7 +875,7 @@ module _ (b : PlanIndex) (f : Fits b) (unmet : List ℕ) where
                     let z = event-slot (waiting b unmet comes (m .u)) (b .round) (b .offset) (m .u) come (b .slots) i l e in
                     ap (λ (x : ℕ). x + 1) (sym (beginning-same (b .round) (getD (b .offset) i 0) (f .offset-less i l) (m .u) (u - 1) (omega (arith, later)) (omega (arith, z, event-is, later))))
 
-                pub kept-next : (place passed noted : List ℕ) → Kept b unmet (moment u come slotend heard run busy comes place passed noted) stirred₁ due₂
+                pub kept-next : (place passed noted : List ℕ) → Kept b unmet (moment u come slotend heard run busy comes place passed noted) lastarrival₁ nextsend₂
                 kept-next place passed noted =
                     record {
                       from-one = omega (arith, later);
@@ -893,12 +893,12 @@ module _ (b : PlanIndex) (f : Fits b) (unmet : List ℕ) where
                       ends-last = λ i l. on-to (end-then i l);
                       idle = λ i l free calm j lo hi.
                           let now : getD busy i 0 ≤ m .u = ended i l free in
-                          let still : (getD stirred₁ i 0 ≤ m .u) ⊎ (u < getD stirred₁ i 0) = not-at calm (late (lastarrival-carried i l) slotend-ahead) in
+                          let still : (getD lastarrival₁ i 0 ≤ m .u) ⊎ (u < getD lastarrival₁ i 0) = not-at calm (late (lastarrival-carried i l) slotend-ahead) in
                           idle-stays (b .processes) (b .remote) (b .from) (b .knownby) unmet run (b .asany) (b .intofirst) (b .into) (m .u) u comes comes (getD (b .dispatch) j 0)
                           (alike i l (unheard i l still) now still j lo hi)
                           ∙ idle-now (eqb (m .come) (m .u)) refl begun-is i l now j lo hi;
-                      dues = λ i l d e. nextsend-then i l ∙ nextsend-still i l (waiting b unmet comes (m .u) i) refl ∙ ap (next-send-from (b .round) (getD (b .offset) i 0) (u - 1)) (sym (waits-still i l (not-at d (late broadcast-carried slotend-ahead)) (not-at e (end-ahead i l))));
-                      dues-past = nextsend-beyond;
+                      next-sends = λ i l d e. nextsend-then i l ∙ nextsend-still i l (waiting b unmet comes (m .u) i) refl ∙ ap (next-send-from (b .round) (getD (b .offset) i 0) (u - 1)) (sym (waits-still i l (not-at d (late broadcast-carried slotend-ahead)) (not-at e (end-ahead i l))));
+                      next-sends-past = nextsend-beyond;
                       busy-long = g .long;
                       lastarrival-long = lastarrival-eight;
                       nextsend-long = nextsend-eight;
@@ -920,10 +920,10 @@ module _ (b : PlanIndex) (f : Fits b) (unmet : List ℕ) where
                         at (inl z) = z
                         at (inr z) = absurd (omega arith)
 
-                    unheard : (i : ℕ) → i < b .slots → (getD stirred₁ i 0 ≤ m .u) ⊎ (u < getD stirred₁ i 0) → (heard ≤ m .u) ⊎ (u < heard)
+                    unheard : (i : ℕ) → i < b .slots → (getD lastarrival₁ i 0 ≤ m .u) ⊎ (u < getD lastarrival₁ i 0) → (heard ≤ m .u) ⊎ (u < heard)
                     unheard i l still = at (broadcast-lastarrival i l) still
                       where
-                        at : (heard ≤ m .u) ⊎ (getD stirred₁ i 0 ≡ heard) → (getD stirred₁ i 0 ≤ m .u) ⊎ (u < getD stirred₁ i 0) → (heard ≤ m .u) ⊎ (u < heard)
+                        at : (heard ≤ m .u) ⊎ (getD lastarrival₁ i 0 ≡ heard) → (getD lastarrival₁ i 0 ≤ m .u) ⊎ (u < getD lastarrival₁ i 0) → (heard ≤ m .u) ⊎ (u < heard)
                         at (inl z) h = inl z
                         at (inr z) (inl h) = inl (omega (arith, z))
                         at (inr z) (inr h) = inr (omega (arith, z))
@@ -943,7 +943,7 @@ module _ (b : PlanIndex) (f : Fits b) (unmet : List ℕ) where
 
                 -- what the event leaves is the next moment, and what is kept goes by it
                 pub event-on : (noted : List ℕ) → noted ≡ notes b unmet m →
-                    (_≡_ {A = Moment} (moment u come slotend heard run busy comes place passed noted) (next b unmet m)) × Kept b unmet (moment u come slotend heard run busy comes place passed noted) stirred₁ due₂
+                    (_≡_ {A = Moment} (moment u come slotend heard run busy comes place passed noted) (next b unmet m)) × Kept b unmet (moment u come slotend heard run busy comes place passed noted) lastarrival₁ nextsend₂
                 event-on noted noted-is = (next-parts b unmet m noted-is run-is busy-is rows-is sends-slot-is come-right event-is, kept-next place passed noted)
 
                 -- and so does the next end of a process

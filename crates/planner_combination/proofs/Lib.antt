@@ -17,8 +17,11 @@ pub mod Keeping
 pub mod WholeEvent
 -- Planning from event to event is the planning of the model: Noting (what is noted as values become known),
 -- EventOfModel (what one event does to what the arrays hold, specs/Standing), Planned (where a run of events leads).
--- EventRuns has what the proof of the loop rests on.
+-- EventRuns and RunBegins have what the proof of the loop rests on, EventSteps what that of an event does: its steps
+-- one after another, by the rows and nodes that each leaves.
 pub mod Noting
 pub mod EventOfModel
 pub mod Planned
 pub mod EventRuns
+pub mod EventSteps
+pub mod RunBegins

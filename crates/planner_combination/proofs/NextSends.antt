@@ -15,10 +15,10 @@ use borrow.Author.Tests.{eq-eqb, ne-eqb, leb-true, leb-false}
 use Rattle.lists.specs.Lists.{if_then_else_}
 use Rattle.lists.proofs.Tests.{two, clash, below-suc}
 use Rattle.planner_dispatch.proofs.Ends.{set-there}
-use Rattle.plan_index.specs.declared.index.PlanIndex.{PlanIndex}
-use Rattle.planner_slot_times.specs.Clocks.{no-event, event-now}
-use Rattle.planner_slot_times.proofs.Firsts.{First, found, missing, first-below}
-use Rattle.planner_slot_times.specs.NextSends.{next-send-from, update-next-send, update-below}
+use Rattle.plan_index.specs.declared.PlanIndex.{PlanIndex}
+use Rattle.planner_sends.specs.Clocks.{no-event, event-now}
+use Rattle.planner_sends.proofs.Firsts.{First, found, missing, first-below}
+use Rattle.planner_sends.specs.NextSends.{next-send-from, update-next-send, update-below}
 use Rattle.planner_packing.specs.Slot.{Bus, bus, fill-by}
 use Rattle.planner_combination.specs.Events.{Moment, begins-by, slot-at-by, send-slot-by, next-slot, nearer-by, event-by, sends-slot, waiting, Fits}
 use Rattle.planner_combination.proofs.EventParts.{nearer-stays, nearer-moves, nearer-none}
@@ -32,8 +32,8 @@ module _ (broadcastend u : ℕ) (pending : ℕ → Bool) (busy : List ℕ) (roun
   abbrev changes : ℕ → Bool
   changes k = eqb broadcastend u || eqb (getD busy k 0) u
 
-  abbrev due-of : ℕ → ℕ
-  due-of k = if changes k then looked k else getD nextsend k 0
+  abbrev next-of : ℕ → ℕ
+  next-of k = if changes k then looked k else getD nextsend k 0
 
   pub record Updated (n : ℕ) (s : List ℕ) : Type 0 where
     pub below : (k : ℕ) → k < n → getD s k 0 ≡ (if eqb broadcastend u || eqb (getD busy k 0) u then next-send-from round (getD offset k 0) (u - 1) (pending k) else getD nextsend k 0)
@@ -56,23 +56,23 @@ module _ (broadcastend u : ℕ) (pending : ℕ → Bool) (busy : List ℕ) (roun
     abbrev after-n : List ℕ
     after-n = if changes n then set s n (looked n) else s
 
-    at-next : (k : ℕ) → (k < n) ⊎ (k ≡ n) → getD after-n k 0 ≡ due-of k
+    at-next : (k : ℕ) → (k < n) ⊎ (k ≡ n) → getD after-n k 0 ≡ next-of k
     at-next k (inl m) = other (changes n) k (λ z. omega arith) ∙ a .below k m
-    at-next k (inr q) = ap (λ (j : ℕ). getD after-n j 0) q ∙ own (changes n) ∙ sym (ap due-of q)
+    at-next k (inr q) = ap (λ (j : ℕ). getD after-n j 0) q ∙ own (changes n) ∙ sym (ap next-of q)
 
-    attended-next : Updated (suc n) (update-next-send broadcastend u pending busy round offset n s)
+    updated-next : Updated (suc n) (update-next-send broadcastend u pending busy round offset n s)
     unfolding update-next-send
-    attended-next =
+    updated-next =
         record {
           below = λ k m. at-next k (below-suc k n m);
           after = λ k m. other (changes n) k (λ z. omega arith) ∙ a .after k (omega arith);
           eight = long (changes n);
         }
 
-  pub attended : (n : ℕ) → n ≤ 8 → Updated n (update-below broadcastend u pending busy round offset n nextsend)
+  pub updated : (n : ℕ) → n ≤ 8 → Updated n (update-below broadcastend u pending busy round offset n nextsend)
   unfolding update-below
-  attended zero l = record { below = λ k m. absurd (omega arith); after = λ k m. refl; eight = nextsend-long }
-  attended (suc n) l = attended-next n (omega arith) _ (attended n (omega arith))
+  updated zero l = record { below = λ k m. absurd (omega arith); after = λ k m. refl; eight = nextsend-long }
+  updated (suc n) l = updated-next n (omega arith) _ (updated n (omega arith))
 
 -- the next event, where the kept array says when the slots take an item
 module _ (pending : ℕ → Bool) (round : ℕ) (offset : List ℕ) (u come : ℕ) (nextsend : List ℕ) where

@@ -14,8 +14,8 @@ use Rattle.lists.proofs.Tests.{two, and-false}
 use Rattle.lists.proofs.Keep.{keep-same}
 use Rattle.lists.proofs.Members.{any-same, below-in}
 use Rattle.log_queries.specs.Reading.{within, came-by, placed-by, part, message-by}
-use Rattle.planner_pending.specs.Packing.{broadcasts-by, waits-by, pending-by}
-use Rattle.planner_slot_times.specs.NextSends.{pending-in}
+use Rattle.planner_sends.specs.Packing.{broadcasts-by, waits-by, pending-by}
+use Rattle.planner_sends.specs.NextSends.{pending-in}
 
 -- a row that is over by the earlier clock, or not by the later one; a row that was not placed and ends after the clock
 module _ (x : ℕ) where

@@ -27,8 +27,8 @@ use Rattle.log_queries.specs.Holding.{Holds, Row, absent, stands, Held}
 use Rattle.log_queries.proofs.Held.{held-none}
 use Rattle.planner_dispatch.specs.Busy.{Busy}
 use Rattle.planner_dispatch.proofs.Ends.{busy-none}
-use Rattle.plan_index.specs.declared.index.PlanIndex.{PlanIndex}
-use Rattle.plan_index.specs.Indexed.{Indexed}
+use Rattle.plan_index.specs.declared.PlanIndex.{PlanIndex}
+use Rattle.plan_layout.specs.Indexed.{Indexed}
 use Rattle.planner_combination.specs.Events.{last-event, Moment, next, Leads, over, on, from-clock}
 use Rattle.planner_combination.specs.Standing.{past, At}
 use Rattle.planner_combination.proofs.EventOfModel.{at-next}
@@ -46,12 +46,12 @@ from-at p c t busy comes place passed noted h b f n l w x =
       clock = refl;
       held = h;
       ends = b;
-      flying = λ r y. inl (f r y);
+      items-sent = λ r y. inl (f r y);
       slotend-end = past (omega arith);
-      telling = λ j y. by-now (getD comes (condition-row p j) 0) (f (condition-row p j) (omega arith));
+      broadcasts-heard = λ j y. by-now (getD comes (condition-row p j) 0) (f (condition-row p j) (omega arith));
       broadcastend-end = past (omega arith);
       running = λ q. clash (eq-eqb (suc t) (suc t) refl) q;
-      resting = λ q. clash (eq-eqb (suc t) (suc t) refl) q;
+      no-starts = λ q. clash (eq-eqb (suc t) (suc t) refl) q;
       counts = n;
       passed-long = l;
       noting = w;

@@ -14,12 +14,12 @@ use Rattle.lists.specs.Lists.{if_then_else_}
 use Rattle.lists.proofs.Tests.{two}
 use Rattle.lists.proofs.Members.{keep-in}
 use Rattle.log_queries.specs.Reading.{part}
-use Rattle.planner_pending.specs.Packing.{Load, waits-by, arrive-all, arrive-each, arrive-by, send-by}
-use Rattle.planner_pending.proofs.Left.{taken-by, waiting-by, arrivals-by, left-pending}
-use Rattle.plan_index.specs.declared.index.PlanIndex.{PlanIndex}
-use Rattle.planner_slot_times.specs.NextSends.{pending-in, Waiting, Roomy}
+use Rattle.planner_sends.specs.Packing.{Load, waits-by, arrive-all, arrive-each, arrive-by, send-by}
+use Rattle.planner_sends.proofs.Left.{taken-by, waiting-by, arrivals-by, left-pending}
+use Rattle.plan_index.specs.declared.PlanIndex.{PlanIndex}
+use Rattle.planner_sends.specs.NextSends.{pending-in, Waiting, Roomy}
 use Rattle.planner_packing.specs.Slot.{Bus, bus, filled, with-broadcast-in, taken-in, fill-with, left-with, arrive-with, fill-by, Slot-sent}
-use Rattle.planner_slot_times.proofs.Waits.{relisted-own, relisted-other, relisted-roomy, waiting-small}
+use Rattle.planner_sends.proofs.Waits.{relisted-own, relisted-other, relisted-roomy, waiting-small}
 use Rattle.planner_combination.specs.Events.{waiting, messages, Fits}
 
 -- a choice by whether a node is the number of slots, where what is chosen for a node is the same

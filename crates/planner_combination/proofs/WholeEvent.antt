@@ -15,10 +15,10 @@ use Rattle.lists.proofs.Tests.{two}
 use Rattle.log_queries.specs.Reading.{part}
 use Rattle.model.specs.Listing.{bit}
 use Rattle.planner_dispatch.specs.ChangedNodes.{Soonest}
-use Rattle.planner_pending.specs.Packing.{arrive-by}
-use Rattle.plan_index.specs.declared.index.PlanIndex.{PlanIndex}
-use Rattle.planner_slot_times.specs.Clocks.{new-at, sending-node-by, sooner-by, ends-now, changes-at, event-now}
-use Rattle.planner_slot_times.specs.NextSends.{next-send-from, update-by, Waiting, Roomy, Updated-all}
+use Rattle.planner_sends.specs.Packing.{arrive-by}
+use Rattle.plan_index.specs.declared.PlanIndex.{PlanIndex}
+use Rattle.planner_sends.specs.Clocks.{new-at, sending-node-by, sooner-by, ends-now, changes-at, event-now}
+use Rattle.planner_sends.specs.NextSends.{next-send-from, update-by, Waiting, Roomy, Updated-all}
 use Rattle.planner_packing.specs.Slot.{Bus, bus, taken-in, fill-with, left-with, arrive-with, fill-by, Slot-sent}
 use Rattle.planner_combination.specs.Events.{last-event, Moment, moment, hears, begins-with, waiting, messages, notes, next, Fits}
 use Rattle.planner_combination.specs.Kept.{Kept, Queued}
@@ -28,15 +28,15 @@ use Rattle.planner_combination.proofs.Queue.{chosen-same, fill-same, sh
 
 module _ (b : PlanIndex) (f : Fits b) (unmet : List ℕ) (m : Moment) (lastarrival nextsend : List ℕ) (k : Kept b unmet m lastarrival nextsend)
     (new : ℕ) (new-is : m .come ≡ m .u → (n : ℕ) → n < 8 → bit new n ≡ new-at lastarrival (m .busy) (m .u) n) (ends : ℕ) (ending : Ending (b .slots) (m .u) (m .busy) ends) (look : ℕ) (look-is : look ≡ changes-at (m .broadcastend) ends (m .u)) (wait waitend : List ℕ) (queued : Queued b unmet m wait waitend)
-    (wait₁ waitend₁ : List ℕ) (attended : Updated-all (m .broadcastend) (m .u) look (b .slots) (m .busy) (b .queuefirst) (messages b unmet (m .comes) (m .u)) wait waitend wait₁ waitend₁)
-    (due₁ : List ℕ) (update-is : due₁ ≡ update-by (m .broadcastend) (m .u) (waiting b unmet (m .comes) (m .u)) (m .busy) (b .round) (b .offset) look (b .slots) nextsend)
-    (low : m .u ≤ last-event) (n : ℕ) (sending-node-is : n ≡ sending-node-by due₁ (m .u) (b .slots)) where
+    (wait₁ waitend₁ : List ℕ) (updated : Updated-all (m .broadcastend) (m .u) look (b .slots) (m .busy) (b .queuefirst) (messages b unmet (m .comes) (m .u)) wait waitend wait₁ waitend₁)
+    (nextsend₁ : List ℕ) (update-is : nextsend₁ ≡ update-by (m .broadcastend) (m .u) (waiting b unmet (m .comes) (m .u)) (m .busy) (b .round) (b .offset) look (b .slots) nextsend)
+    (low : m .u ≤ last-event) (n : ℕ) (sending-node-is : n ≡ sending-node-by nextsend₁ (m .u) (b .slots)) where
   -- what waits once the nodes are looked at
   pub roomy-now : Roomy wait₁ waitend₁
-  roomy-now = queued-now b f unmet m lastarrival nextsend k ends ending look look-is wait waitend wait₁ waitend₁ queued attended .0
+  roomy-now = queued-now b f unmet m lastarrival nextsend k ends ending look look-is wait waitend wait₁ waitend₁ queued updated .0
 
   pub waits-now : (i : ℕ) → i < b .slots → Waiting (b .queuefirst) wait₁ waitend₁ i (messages b unmet (m .comes) (m .u) i)
-  waits-now = queued-now b f unmet m lastarrival nextsend k ends ending look look-is wait waitend wait₁ waitend₁ queued attended .1
+  waits-now = queued-now b f unmet m lastarrival nextsend k ends ending look look-is wait waitend wait₁ waitend₁ queued updated .1
 
   abbrev ws : List ℕ
   ws = part wait₁ (getD (b .queuefirst) n 0) (getD waitend₁ n 0)
@@ -45,17 +45,17 @@ module _ (b : PlanIndex) (f : Fits b) (unmet : List ℕ) (m : Moment) (lastarriv
   remote-now o e w = message-remote b f unmet (m .comes) (m .u) n o e (subst (λ (xs : List ℕ). In e xs) (waits-now n o .holds) w)
 
   node-in : n ≤ b .slots
-  node-in = node-low b f unmet m lastarrival nextsend k new new-is ends ending look look-is due₁ update-is low n sending-node-is
+  node-in = node-low b f unmet m lastarrival nextsend k new new-is ends ending look look-is nextsend₁ update-is low n sending-node-is
 
   module _ (run : List ℕ) (run-is : run ≡ hears b unmet m) (busy rows : List ℕ) (busy-is : busy ≡ begins-with b unmet run m .busy) (rows-is : rows ≡ begins-with b unmet run m .comes) where
     abbrev before : Bus
     before = bus (m .slotend) (m .broadcastend) rows (m .place) (m .passed)
 
     long : b .conditionrow + b .conditions ≤ length rows
-    long = rows-room b f unmet m lastarrival nextsend k new new-is ends ending look look-is due₁ update-is low n sending-node-is run run-is busy rows busy-is rows-is
+    long = rows-room b f unmet m lastarrival nextsend k new new-is ends ending look look-is nextsend₁ update-is low n sending-node-is run run-is busy rows busy-is rows-is
 
     ws-is : n < b .slots → ws ≡ messages b unmet rows (m .u) n
-    ws-is o = waits-now n o .holds ∙ sym (wait-rows b f unmet m lastarrival nextsend k new new-is ends ending look look-is due₁ update-is low n sending-node-is run run-is busy rows busy-is rows-is n)
+    ws-is o = waits-now n o .holds ∙ sym (wait-rows b f unmet m lastarrival nextsend k new new-is ends ending look look-is nextsend₁ update-is low n sending-node-is run run-is busy rows busy-is rows-is n)
 
     module _ (slotend heard : ℕ) (comes place passed : List ℕ)
         (list-is : bus slotend heard comes place passed ≡ (if eqb n (b .slots) then before else fill-with (b .processes) (b .conditionrow) (b .conditions) (b .decider) (b .node) (b .bytes) (b .lasts) (b .rooms) n (m .u) ws before)) where
@@ -77,29 +77,29 @@ module _ (b : PlanIndex) (f : Fits b) (unmet : List ℕ) (m : Moment) (lastarriv
       left-messages : n < b .slots → left ≡ messages b unmet comes (m .u) n
       left-messages o = left-same b f unmet n (m .u) (m .slotend) (m .broadcastend) rows (m .place) (m .passed) o long ws (ws-is o) (bus slotend heard comes place passed) (left-is o)
 
-      module _ (stirred₁ due₂ wait₂ waitend₂ : List ℕ)
-          (arrive-list : stirred₁ ≡ (if eqb n (b .slots) then lastarrival else arrive-with (b .processes) (b .conditionrow) (b .conditions) (b .decider) (b .node) (b .bytes) (b .lasts) (b .rooms) n (m .u) (b .remote) (b .slots) ws rows (m .place) lastarrival))
-          (nextsend-list : due₂ ≡ (if eqb n (b .slots) then due₁ else set due₁ n (next-send-from (b .round) (getD (b .offset) n 0) (m .u) (taken-in (b .processes) (b .conditionrow) (b .conditions) (b .decider) (b .node) (b .bytes) (b .lasts) (b .rooms) n (m .u) ws rows (m .place) .short))))
+      module _ (lastarrival₁ nextsend₂ wait₂ waitend₂ : List ℕ)
+          (arrive-list : lastarrival₁ ≡ (if eqb n (b .slots) then lastarrival else arrive-with (b .processes) (b .conditionrow) (b .conditions) (b .decider) (b .node) (b .bytes) (b .lasts) (b .rooms) n (m .u) (b .remote) (b .slots) ws rows (m .place) lastarrival))
+          (nextsend-list : nextsend₂ ≡ (if eqb n (b .slots) then nextsend₁ else set nextsend₁ n (next-send-from (b .round) (getD (b .offset) n 0) (m .u) (taken-in (b .processes) (b .conditionrow) (b .conditions) (b .decider) (b .node) (b .bytes) (b .lasts) (b .rooms) n (m .u) ws rows (m .place) .short))))
           (sending-node : Slot-sent (b .slots) n (b .queuefirst) left wait₁ waitend₁ wait₂ waitend₂)
           (first : ℕ) (soonest : length (m .busy) ≡ 8 → Soonest (b .slots) (m .u) (m .busy) busy first) (ends₁ come u : ℕ)
-          (ends-is : ends₁ ≡ ends-now ends first busy (m .u) (b .slots)) (come-is : come ≡ sooner-by ends₁ slotend (m .u)) (u-is : u ≡ event-now due₂ come 8) (noted : List ℕ) (noted-is : noted ≡ notes b unmet m) where
+          (ends-is : ends₁ ≡ ends-now ends first busy (m .u) (b .slots)) (come-is : come ≡ sooner-by ends₁ slotend (m .u)) (u-is : u ≡ event-now nextsend₂ come 8) (noted : List ℕ) (noted-is : noted ≡ notes b unmet m) where
         roomy-then : Roomy wait₂ waitend₂
         roomy-then = sending-node-roomy b f n left wait₁ waitend₁ wait₂ waitend₂ node-in sending-node roomy-now (λ o x w. message-small b f unmet comes (m .u) n o x (subst (λ (xs : List ℕ). In x xs) (left-messages o) w))
 
-        lastarrival-is : stirred₁ ≡ (if eqb n (b .slots) then lastarrival else arrive-by (b .processes) (b .remote) comes (m .u + getD (b .lasts) n 0) (b .slots) heard (part (b .queue) (getD (b .queuefirst) n 0) (getD (b .queuefirst) (n + 1) 0)) lastarrival)
+        lastarrival-is : lastarrival₁ ≡ (if eqb n (b .slots) then lastarrival else arrive-by (b .processes) (b .remote) comes (m .u + getD (b .lasts) n 0) (b .slots) heard (part (b .queue) (getD (b .queuefirst) n 0) (getD (b .queuefirst) (n + 1) 0)) lastarrival)
         lastarrival-is =
             arrive-list
             ∙ chosen-same n (b .slots) lastarrival (arrive-with (b .processes) (b .conditionrow) (b .conditions) (b .decider) (b .node) (b .bytes) (b .lasts) (b .rooms) n (m .u) (b .remote) (b .slots) ws rows (m .place) lastarrival) _ node-in
             (λ o.
             arrive-same b f unmet n (m .u) (m .slotend) (m .broadcastend) rows (m .place) (m .passed) o long ws (ws-is o) (bus slotend heard comes place passed) (left-is o) lastarrival
-            (rows-arrived b f unmet m lastarrival nextsend k new new-is ends ending look look-is due₁ update-is low n sending-node-is run run-is busy rows busy-is rows-is o) (broadcast-arrived b f unmet m lastarrival nextsend k new new-is ends ending look look-is due₁ update-is low n sending-node-is run run-is busy rows busy-is rows-is o))
+            (rows-arrived b f unmet m lastarrival nextsend k new new-is ends ending look look-is nextsend₁ update-is low n sending-node-is run run-is busy rows busy-is rows-is o) (broadcast-arrived b f unmet m lastarrival nextsend k new new-is ends ending look look-is nextsend₁ update-is low n sending-node-is run run-is busy rows busy-is rows-is o))
 
-        nextsend-is : due₂ ≡ (if eqb n (b .slots) then due₁ else set due₁ n (next-send-from (b .round) (getD (b .offset) n 0) (m .u) (waiting b unmet comes (m .u) n)))
+        nextsend-is : nextsend₂ ≡ (if eqb n (b .slots) then nextsend₁ else set nextsend₁ n (next-send-from (b .round) (getD (b .offset) n 0) (m .u) (waiting b unmet comes (m .u) n)))
         nextsend-is =
             nextsend-list
-            ∙ chosen-same n (b .slots) due₁ (set due₁ n (next-send-from (b .round) (getD (b .offset) n 0) (m .u) (taken-in (b .processes) (b .conditionrow) (b .conditions) (b .decider) (b .node) (b .bytes) (b .lasts) (b .rooms) n (m .u) ws rows (m .place) .short))) _ node-in
+            ∙ chosen-same n (b .slots) nextsend₁ (set nextsend₁ n (next-send-from (b .round) (getD (b .offset) n 0) (m .u) (taken-in (b .processes) (b .conditionrow) (b .conditions) (b .decider) (b .node) (b .bytes) (b .lasts) (b .rooms) n (m .u) ws rows (m .place) .short))) _ node-in
             (λ o.
-            ap (λ (c : Bool). set due₁ n (next-send-from (b .round) (getD (b .offset) n 0) (m .u) c))
+            ap (λ (c : Bool). set nextsend₁ n (next-send-from (b .round) (getD (b .offset) n 0) (m .u) c))
             (short-same b f unmet n (m .u) (m .slotend) (m .broadcastend) rows (m .place) (m .passed) o long ws (ws-is o) (bus slotend heard comes place passed) (left-is o)))
 
         waits-then : (i : ℕ) → i < b .slots → Waiting (b .queuefirst) wait₂ waitend₂ i (messages b unmet comes (m .u) i)
@@ -113,13 +113,13 @@ module _ (b : PlanIndex) (f : Fits b) (unmet : List ℕ) (m : Moment) (lastarriv
                 (subst (Waiting (b .queuefirst) wait₂ waitend₂ n) (left-messages o) (sending-node-own b f n left wait₁ waitend₁ wait₂ waitend₂ node-in sending-node roomy-now o))
             at (inr e) =
                 let d : i ≡ n → ⊥ = eqb-false i n e in
-                subst (Waiting (b .queuefirst) wait₂ waitend₂ i) (sym (wait-comes b f unmet m lastarrival nextsend k new new-is ends ending look look-is due₁ update-is low n sending-node-is run run-is busy rows busy-is rows-is slotend heard comes place passed bus-is i l d))
+                subst (Waiting (b .queuefirst) wait₂ waitend₂ i) (sym (wait-comes b f unmet m lastarrival nextsend k new new-is ends ending look look-is nextsend₁ update-is low n sending-node-is run run-is busy rows busy-is rows-is slotend heard comes place passed bus-is i l d))
                 (sending-node-other b f n left wait₁ waitend₁ wait₂ waitend₂ node-in sending-node i l d (messages b unmet (m .comes) (m .u) i) (waits-now i l))
 
         pub event-whole :
             (_≡_ {A = Moment} (moment u come slotend heard run busy comes place passed noted) (next b unmet m))
-            × (Kept b unmet (moment u come slotend heard run busy comes place passed noted) stirred₁ due₂ × (Ending (b .slots) u busy ends₁ × Queued b unmet (moment u come slotend heard run busy comes place passed noted) wait₂ waitend₂))
+            × (Kept b unmet (moment u come slotend heard run busy comes place passed noted) lastarrival₁ nextsend₂ × (Ending (b .slots) u busy ends₁ × Queued b unmet (moment u come slotend heard run busy comes place passed noted) wait₂ waitend₂))
         event-whole =
-            let on = event-on b f unmet m lastarrival nextsend k new new-is ends ending look look-is due₁ update-is low n sending-node-is run run-is busy rows busy-is rows-is slotend heard comes place passed bus-is stirred₁ due₂ lastarrival-is nextsend-is first soonest ends₁ come u ends-is come-is u-is noted noted-is in
-            let after = ending-on b f unmet m lastarrival nextsend k new new-is ends ending look look-is due₁ update-is low n sending-node-is run run-is busy rows busy-is rows-is slotend heard comes place passed bus-is stirred₁ due₂ lastarrival-is nextsend-is first soonest ends₁ come u ends-is come-is u-is in
-            (on .0, (on .1, (after, queued-next b f unmet m lastarrival nextsend k new new-is ends ending look look-is due₁ update-is low n sending-node-is run run-is busy rows busy-is rows-is slotend heard comes place passed bus-is stirred₁ due₂ lastarrival-is nextsend-is first soonest ends₁ come u ends-is come-is u-is place passed noted wait₂ waitend₂ roomy-then waits-then)))
+            let on = event-on b f unmet m lastarrival nextsend k new new-is ends ending look look-is nextsend₁ update-is low n sending-node-is run run-is busy rows busy-is rows-is slotend heard comes place passed bus-is lastarrival₁ nextsend₂ lastarrival-is nextsend-is first soonest ends₁ come u ends-is come-is u-is noted noted-is in
+            let after = ending-on b f unmet m lastarrival nextsend k new new-is ends ending look look-is nextsend₁ update-is low n sending-node-is run run-is busy rows busy-is rows-is slotend heard comes place passed bus-is lastarrival₁ nextsend₂ lastarrival-is nextsend-is first soonest ends₁ come u ends-is come-is u-is in
+            (on .0, (on .1, (after, queued-next b f unmet m lastarrival nextsend k new new-is ends ending look look-is nextsend₁ update-is low n sending-node-is run run-is busy rows busy-is rows-is slotend heard comes place passed bus-is lastarrival₁ nextsend₂ lastarrival-is nextsend-is first soonest ends₁ come u ends-is come-is u-is place passed noted wait₂ waitend₂ roomy-then waits-then)))

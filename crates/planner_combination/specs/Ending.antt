@@ -4,7 +4,7 @@ use Prim.Native.Nat.{ℕ, _<_}
 use mathlib.Core.Path.{_≡_}
 use mathlib.Core.List.{List}
 use lib.ListN.{getD}
-use Rattle.planner_slot_times.specs.Clocks.{come-by}
+use Rattle.planner_sends.specs.Clocks.{come-by}
 
 -- `ends` is the clock at which a process next ends, the event's own among them; at the clock from which planning begins
 -- it may be that clock in any case.

@@ -5,7 +5,7 @@ use Prim.Native.Nat.{ℕ, zero, suc, _+_, _-_, _*_, _≤_, _<_}
 use mathlib.Core.Path.{_≡_}
 use mathlib.Core.Logic.{_⊎_}
 use mathlib.Core.Bool.{Bool, true, false}
-use mathlib.Core.List.{List, [], List·Memᴰ as In}
+use mathlib.Core.List.{List, List·Memᴰ as In}
 use lib.Dec.{eqb, leb}
 use lib.ListN.{getD, replicate}
 use lib.Seq.{sets}
@@ -14,11 +14,12 @@ use Rattle.lists.specs.Lists.{if_then_else_, below, repeated}
 use Rattle.log_queries.specs.Reading.{part, edges-into, Within}
 use Rattle.bus_timetable.specs.Bus.{beginning-at}
 use Rattle.planner_dispatch.specs.Starts.{Ends, starts-by}
-use Rattle.planner_slot_times.specs.Clocks.{first-or, come-by}
+use Rattle.planner_sends.specs.Clocks.{first-or, come-by}
 use Rattle.log_queries.specs.Hearing.{heard-by}
-use Rattle.planner_slot_times.specs.NextSends.{waiting-in, pending-in}
+use Rattle.planner_sends.specs.NextSends.{waiting-in, pending-in}
 use Rattle.planner_packing.specs.Slot.{Bus, bus, fill-by}
-use Rattle.plan_index.specs.declared.index.PlanIndex.{PlanIndex}
+use Rattle.plan_index.specs.declared.PlanIndex.{PlanIndex}
+use Rattle.plan_index.specs.Index.{Bounded}
 
 -- the last clock at which an event is looked at: no delay reaches it
 abbrev pub last-event : ℕ
@@ -157,6 +158,7 @@ from-clock u busy comes place passed noted =
 
 -- what the arrays index, how large their numbers are, what they say of each other, and how the slots lie
 pub record Fits (b : PlanIndex) : Type 0 where
+  pub bounded : Bounded b
   pub few-processes : b .processes ≤ 64
   pub few-rows : b .conditionrow ≤ 192
   pub few-conditions : b .conditions ≤ 6
@@ -193,38 +195,3 @@ pub record Fits (b : PlanIndex) : Type 0 where
   -- slots do not lie on each other
   pub one-begins : (n k t : ℕ) → n < b .slots → k < b .slots → begins-by (b .round) (b .offset) t n ≡ true → begins-by (b .round) (b .offset) t k ≡ true → n ≡ k
   pub slots-apart : (n k t w : ℕ) → n < b .slots → k < b .slots → begins-by (b .round) (b .offset) t n ≡ true → begins-by (b .round) (b .offset) w k ≡ true → t < w → t + getD (b .lasts) n 0 ≤ w
-
--- a plan index of the numbers and arrays that planning reads; the others are left out
-unfoldable pub index-of : (processes conditionrow conditions slots : ℕ) (node ticks asany from knownby remote bytes decider intofirst into dispatchfirst dispatch queuefirst queue : List ℕ) (round : ℕ) (offset lasts rooms : List ℕ) → PlanIndex
-index-of processes conditionrow conditions slots node ticks asany from knownby remote bytes decider intofirst into dispatchfirst dispatch queuefirst queue round offset lasts rooms =
-    record {
-      processes = processes;
-      edges = 0;
-      conditions = conditions;
-      slots = slots;
-      conditionrow = conditionrow;
-      rows = 0;
-      node = node;
-      ticks = ticks;
-      asany = asany;
-      from = from;
-      knownby = knownby;
-      remote = remote;
-      bytes = bytes;
-      kind = [];
-      condition = [];
-      decider = decider;
-      intofirst = intofirst;
-      into = into;
-      dispatchfirst = dispatchfirst;
-      dispatch = dispatch;
-      queuefirst = queuefirst;
-      queue = queue;
-      round = round;
-      offset = offset;
-      lasts = lasts;
-      rooms = rooms;
-      span = [];
-      sender = [];
-      size = [];
-    }

@@ -10,9 +10,9 @@ use mathlib.Core.List.{List}
 use lib.ListN.{length, getD}
 use Rattle.limits.specs.Limits.{ROWS}
 use Rattle.planner_dispatch.specs.Unchanged.{Idle}
-use Rattle.plan_index.specs.declared.index.PlanIndex.{PlanIndex}
-use Rattle.planner_slot_times.specs.Clocks.{no-event}
-use Rattle.planner_slot_times.specs.NextSends.{next-send-from, Waiting, Roomy}
+use Rattle.plan_index.specs.declared.PlanIndex.{PlanIndex}
+use Rattle.planner_sends.specs.Clocks.{no-event}
+use Rattle.planner_sends.specs.NextSends.{next-send-from, Waiting, Roomy}
 use Rattle.planner_combination.specs.Events.{Moment, begins-by, waiting, messages}
 
 -- a clock that is past, or at which a slot ends that began before the clock u
@@ -46,9 +46,9 @@ pub record Kept (b : PlanIndex) (unmet : List ℕ) (m : Moment) (lastarrival nex
       Idle (b .processes) (b .remote) (b .from) (b .knownby) unmet (m .run) (b .asany) (b .intofirst) (b .into) (m .u) (b .dispatchfirst) (b .dispatch) (m .comes) n
   -- the slot of a node for which neither a broadcast arrives nor a process ends at this event next takes an item when
   -- `nextsend` says; past the nodes there is none
-  pub dues : (n : ℕ) → n < b .slots → (m .broadcastend ≡ m .u → ⊥) → (getD (m .busy) n 0 ≡ m .u → ⊥) →
+  pub next-sends : (n : ℕ) → n < b .slots → (m .broadcastend ≡ m .u → ⊥) → (getD (m .busy) n 0 ≡ m .u → ⊥) →
       getD nextsend n 0 ≡ next-send-from (b .round) (getD (b .offset) n 0) (m .u - 1) (waiting b unmet (m .comes) (m .u) n)
-  pub dues-past : (n : ℕ) → b .slots ≤ n → n < 8 → getD nextsend n 0 ≡ no-event
+  pub next-sends-past : (n : ℕ) → b .slots ≤ n → n < 8 → getD nextsend n 0 ≡ no-event
   pub busy-long : length (m .busy) ≡ 8
   pub lastarrival-long : length lastarrival ≡ 8
   pub nextsend-long : length nextsend ≡ 8

@@ -29,12 +29,12 @@ pub record At (p : Lines) (c : List Bool) (t : ℕ) (m : Moment) : Type 0 where
   pub clock : m .u ≡ suc t
   pub held : Held p (before p c t .log) (m .comes) (m .place)
   pub ends : Busy p (m .comes) (m .busy) (suc t)
-  pub flying : (r : ℕ) → length (p .processes) ≤ r → (getD (m .comes) r 0 ≤ suc t) ⊎ (getD (m .comes) r 0 ≡ m .slotend)
+  pub items-sent : (r : ℕ) → length (p .processes) ≤ r → (getD (m .comes) r 0 ≤ suc t) ⊎ (getD (m .comes) r 0 ≡ m .slotend)
   pub slotend-end : Slot-end p t (m .slotend)
-  pub telling : (k : ℕ) → k < length (p .conditions) → (getD (m .comes) (condition-row p k) 0 ≤ t) ⊎ (getD (m .comes) (condition-row p k) 0 ≡ m .broadcastend)
+  pub broadcasts-heard : (k : ℕ) → k < length (p .conditions) → (getD (m .comes) (condition-row p k) 0 ≤ t) ⊎ (getD (m .comes) (condition-row p k) 0 ≡ m .broadcastend)
   pub broadcastend-end : Slot-end p t (m .broadcastend)
   pub running : eqb (m .broadcastend) (m .u) ≡ false → Runs (m .run) (may-run p (known p c (came-by (m .comes) (suc t))))
-  pub resting : eqb (m .come) (m .u) ≡ false → starts p (view p c (before p c t .log) t) t ≡ []
+  pub no-starts : eqb (m .come) (m .u) ≡ false → starts p (view p c (before p c t .log) t) t ≡ []
   pub counts : (n : ℕ) → n < length (p .slots) → getD (m .passed) n 0 ≡ length (keep (eqb n) (before p c t .passed))
   pub passed-long : length (m .passed) ≡ 8
   pub noting : (k : ℕ) → k < length (p .conditions) → 0 < getD (m .comes) (condition-row p k) 0 → getD (m .comes) (condition-row p k) 0 ≤ t → (n : ℕ) → n < length (p .slots) →

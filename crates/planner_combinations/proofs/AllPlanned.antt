@@ -24,10 +24,10 @@ use Rattle.model.specs.Refusals.{nothing, plan-refusal}
 use Rattle.model.specs.Table.{Planned, plans, passed-by, result}
 use Rattle.bitset.proofs.Numbered.{combinations-count}
 use Rattle.log_queries.specs.Holding.{Held}
-use Rattle.plan_index.specs.declared.index.PlanIndex.{PlanIndex}
-use Rattle.plan_index.specs.Indexed.{Indexed}
+use Rattle.plan_index.specs.declared.PlanIndex.{PlanIndex}
+use Rattle.plan_layout.specs.Indexed.{Indexed}
 use Rattle.table_entries.specs.Logs.{block, numbered, plan-of}
-use Rattle.planner_combinations.specs.Combinations.{Laid-out, log-of, delay-of, passes-by, passes-of, Stored, Taken-over, One, First, Planned-all}
+use Rattle.planner_combinations.specs.Combinations.{Laid-out, Before, log-of, delay-of, passes-by, passes-of, Stored, Taken-over, One, First, Planned-all}
 use Rattle.table_entries.proofs.EntriesOfModel.{block-at}
 use Rattle.planner_combinations.proofs.Storing.{block-stored, block-before, notes-own, notes-last, notes-others}
 use Rattle.planner_combinations.proofs.OnePlanned.{passes-few}
@@ -53,6 +53,9 @@ pub record Sofar (b : PlanIndex) (n latest : ℕ) (comes place since notes passe
   pub passed-long : length passed ≡ 8
   pub passed-few : (k : ℕ) → k < b .slots → getD passed k 0 ≤ 198 * n
   pub first : (p : Lines) → plan-refusal p ≡ nothing → Indexed p b → First p (b .span) n latest comes place since notes passed
+
+pub sofar-before : {b : PlanIndex} {n latest : ℕ} {comes place since notes passed : List ℕ} → Sofar b n latest comes place since notes passed → Before b n comes place notes passed
+sofar-before s = record { place-long = s .place-long; passed-long = s .passed-long; passed-few = s .passed-few; earlier = λ p f o. s .first p f o .earlier }
 
 pub sofar-start : (b : PlanIndex) (comes place since : List ℕ) {notes passed : List ℕ} → length comes ≡ 12672 → length place ≡ 12672 → length since ≡ 64 → length notes ≡ 3584 → passed ≡ replicate 8 0 →
     Sofar b 0 0 comes place since notes passed

@@ -27,9 +27,10 @@ use Rattle.log_queries.specs.Reading.{part, edges-into}
 use Rattle.log_queries.specs.Holding.{known-row, met-in, Holds}
 use Rattle.bus_timetable.specs.Bus.{beginning-at}
 use Rattle.planner_dispatch.proofs.NodeOrders.{dispatch-member, dispatch-unit}
-use Rattle.plan_index.specs.declared.index.PlanIndex.{PlanIndex}
-use Rattle.plan_index.specs.Unmet.{unmet-by}
-use Rattle.plan_index.specs.Indexed.{Indexed}
+use Rattle.plan_index.specs.declared.PlanIndex.{PlanIndex}
+use Rattle.plan_layout.specs.Unmet.{unmet-by}
+use Rattle.plan_layout.specs.Indexed.{Indexed}
+use Rattle.plan_layout.proofs.Bounds.{bounded}
 use Rattle.planner_combination.specs.Events.{begins-by, from-clock, Fits}
 use Rattle.planner_combination.specs.Kept.{Begins}
 use Rattle.table_entries.specs.Logs.{numbered}
@@ -159,6 +160,7 @@ module _ (p : Lines) (passes : plan-refusal p ≡ nothing) (b : PlanIndex) (o : 
   pub fits : Fits b
   fits =
       record {
+        bounded = bounded p b o;
         few-processes = o .few-processes;
         few-rows = omega (arith, o .first-condition-row, o .few-processes, o .few-edges);
         few-conditions = o .few-conditions;
@@ -208,7 +210,7 @@ module _ (p : Lines) (passes : plan-refusal p ≡ nothing) (b : PlanIndex) (o : 
         record {
           broadcastend-apart = λ e d. unmet-when e (edge p e .when) refl d;
           ends-last = λ i l. last-at i (s .ends .last i (in-processes i l));
-          items-past = λ i l. past-at i (s .flying i (omega (arith, o .processes-count)));
+          items-past = λ i l. past-at i (s .items-sent i (omega (arith, o .processes-count)));
           busy-long = s .ends .long;
         }
       where

@@ -21,13 +21,15 @@ use Rattle.laws.proofs.Events.{one-begins, passed-few}
 use Rattle.log_queries.specs.Reading.{last-end-by}
 use Rattle.log_queries.specs.Holding.{Holds, Held}
 use Rattle.log_queries.proofs.Readings.{last-end-link}
-use Rattle.plan_index.specs.declared.index.PlanIndex.{PlanIndex}
-use Rattle.plan_index.specs.Unmet.{unmet-by}
-use Rattle.plan_index.specs.Indexed.{Indexed}
+use Rattle.plan_index.specs.declared.PlanIndex.{PlanIndex}
+use Rattle.plan_layout.specs.Unmet.{unmet-by}
+use Rattle.plan_layout.specs.Indexed.{Indexed}
 use Rattle.planner_combination.specs.Events.{Moment, Ended, from-clock}
 use Rattle.planner_combination.proofs.Planned.{first-at, Plans, leads-planned}
 use Rattle.table_entries.specs.Logs.{numbered}
-use Rattle.planner_prefix.specs.Stored.{Kept}
+use Rattle.log_rows.specs.Rows.{Rows}
+use Rattle.planner_nodes.specs.Nodes.{Nodes}
+use Rattle.planner_prefix.specs.Stored.{added, Rows-kept, Notes-kept}
 use Rattle.planner_prefix.proofs.Adding.{added-at, added-long}
 use Rattle.planner_combinations.specs.Combinations.{log-of, passes-by, passes-of, Ready, Stored}
 use Rattle.planner_prefix.proofs.Sources.{width}
@@ -129,29 +131,29 @@ module _ (p : Lines) (passes : plan-refusal p ≡ nothing) where
         }
 
     -- its rows and notes stored and its counts added
-    pub stored-of : (c latest : ℕ) (rows places counts noted : List ℕ) → Combination-planned p c rows places counts noted → latest ≡ last-end-by rows (b .processes) → (clock : ℕ) (comes place since notes passed : List ℕ) → length passed ≡ 8 →
-        {comes-after place-after since-after notes-after passed-after : List ℕ} →
-        Kept c clock (b .slots) rows places counts noted comes place since notes passed comes-after place-after since-after notes-after passed-after →
+    pub stored-of : (c latest : ℕ) (s : Rows) (ns : Nodes) → Combination-planned p c (s .comes) (s .place) (ns .passed) (ns .noted) → latest ≡ last-end-by (s .comes) (b .processes) →
+        (comes place notes passed : List ℕ) → length passed ≡ 8 → {comes-after place-after notes-after passed-after : List ℕ} →
+        Rows-kept c s comes place comes-after place-after → Notes-kept c ns notes notes-after → passed-after ≡ added (ns .passed) passed (b .slots) →
         Stored p c latest comes place notes passed comes-after place-after notes-after passed-after
-    stored-of c latest rows places counts noted k e clock comes place since notes passed long s =
+    stored-of c latest s ns k e comes place notes passed long r m t =
         let n : b .slots ≡ length (p .slots) = o .slots-count in
         record {
-          rows = rows;
-          places = places;
-          noted = noted;
-          counts = counts;
+          rows = s .comes;
+          places = s .place;
+          noted = ns .noted;
+          counts = ns .passed;
           held = k .held;
           noting = k .noting;
           noted-long = k .noted-long;
           counts-own = k .counted;
           counts-long = k .counts-long;
-          rows-stored = s .rows-stored;
-          places-stored = s .places-stored;
-          notes-stored = s .notes-stored;
-          delay = e ∙ ap (last-end-by rows) (o .processes-count) ∙ last-end-link p (log-of p c) rows places (k .held);
+          rows-stored = r .rows-stored;
+          places-stored = r .places-stored;
+          notes-stored = m;
+          delay = e ∙ ap (last-end-by (s .comes)) (o .processes-count) ∙ last-end-link p (log-of p c) (s .comes) (s .place) (k .held);
           counted = λ m l.
-              ap (λ (xs : List ℕ). getD xs m 0) (s .counts-added)
-              ∙ added-at counts passed (b .slots) m (omega arith) (omega (arith, o .few-slots))
+              ap (λ (xs : List ℕ). getD xs m 0) t
+              ∙ added-at (ns .passed) passed (b .slots) m (omega arith) (omega (arith, o .few-slots))
               ∙ ap (λ (x : ℕ). getD passed m 0 + x) (k .counted m l);
-          passed-long = ap length (s .counts-added) ∙ added-long counts passed (b .slots) ∙ long;
+          passed-long = ap length t ∙ added-long (ns .passed) passed (b .slots) ∙ long;
         }

@@ -9,7 +9,7 @@ use mathlib.Core.List.{List, List·Memᴰ as In, List·Memᴰ·head as here}
 use Prim.Native.Nat.{ℕ, zero, suc, _+_, _-_, _*_, _^_, _≤_, _<_}
 use native.Mathlib.Omega.{arith}
 use lib.Dec.{eqb, leb}
-use lib.ListN.{length, getD}
+use lib.ListN.{length, getD, set}
 use borrow.Author.Tests.{eq-eqb, ne-eqb, leb-true, leb-false}
 use Rattle.lists.specs.Lists.{keep}
 use Rattle.lists.proofs.Tests.{two}
@@ -26,13 +26,15 @@ use Rattle.laws.proofs.Bound.{bound-small}
 use Rattle.laws.proofs.Sharing.{in-plan, plan-in, Shared, made-same}
 use Rattle.log_queries.specs.Reading.{last-end-by}
 use Rattle.log_queries.specs.Holding.{Row, absent, stands, Held}
-use Rattle.plan_index.specs.declared.index.PlanIndex.{PlanIndex}
-use Rattle.plan_index.specs.Unmet.{unmet-by}
-use Rattle.plan_index.specs.Indexed.{Indexed}
+use Rattle.plan_index.specs.declared.PlanIndex.{PlanIndex}
+use Rattle.plan_layout.specs.Unmet.{unmet-by}
+use Rattle.plan_layout.specs.Indexed.{Indexed}
 use Rattle.planner_combination.specs.Events.{Ended, from-clock}
 use Rattle.planner_combination.specs.Standing.{At}
 use Rattle.table_entries.specs.Logs.{block, numbered, plan-of}
-use Rattle.planner_prefix.specs.Stored.{Kept}
+use Rattle.log_rows.specs.Rows.{Rows}
+use Rattle.planner_nodes.specs.Nodes.{Nodes}
+use Rattle.planner_prefix.specs.Stored.{added, Rows-kept, Notes-kept}
 use Rattle.planner_prefix.specs.declared.prefix.Source.{Source}
 use Rattle.planner_prefix.specs.Prefix.{no-value, arrival, cut, ends-below, source-among, counts-from, notes-from, counts-at, Prefix-shared, begins, goes-on}
 use Rattle.planner_combinations.specs.Combinations.{log-of, Ready, Earlier, Taken-over, One}
@@ -248,13 +250,13 @@ module _ (p : Lines) (passes : plan-refusal p ≡ nothing) (b : PlanIndex) (o : 
       at (goes-on some t) =
           subst (λ (x : ℕ). Taken-over p c rows-after (b .span) x) (sym (t .until)) (next-taken p passes b o c l comes place notes e source (source-of some) rows-after places-after h)
 
-  pub one-of : (unmet : List ℕ) → unmet ≡ unmet-by (b .kind) (b .condition) (b .edges) c → {rows-after places-after counts-after noted-after : List ℕ} →
-      Ended b unmet (from-clock clock ends rows places counts noted) rows-after places-after counts-after noted-after → {latest : ℕ} → latest ≡ last-end-by rows-after (b .processes) → (since passed : List ℕ) → length passed ≡ 8 →
+  pub one-of : (unmet : List ℕ) → unmet ≡ unmet-by (b .kind) (b .condition) (b .edges) c → (s : Rows) (ns : Nodes) →
+      Ended b unmet (from-clock clock ends rows places counts noted) (s .comes) (s .place) (ns .passed) (ns .noted) → {latest : ℕ} → latest ≡ last-end-by (s .comes) (b .processes) → (since passed : List ℕ) → length passed ≡ 8 →
       {comes-after place-after since-after notes-after passed-after : List ℕ} →
-      Kept c clock (b .slots) rows-after places-after counts-after noted-after comes place since notes passed comes-after place-after since-after notes-after passed-after →
+      Rows-kept c s comes place comes-after place-after → Notes-kept c ns notes notes-after → passed-after ≡ added (ns .passed) passed (b .slots) → since-after ≡ set since c clock →
       One p (b .span) c latest comes place since notes passed comes-after place-after since-after notes-after passed-after
-  one-of unmet q {rows-after} {places-after} {counts-after} {noted-after} f {latest} d since passed long s =
-      let k : Combination-planned p c rows-after places-after counts-after noted-after =
-      combination-of p passes b o c l unmet q clock ends rows places counts noted prefix-ready rows-after places-after counts-after noted-after f in
-      let x = stored-of p passes b o c latest rows-after places-after counts-after noted-after k d clock comes place since notes passed long s in
-      record { stored = x; clock = clock; since-stored = s .since-stored; taken-over = prefix-taken (x .rows) (x .places) (x .held) }
+  one-of unmet q s ns f {latest} y since passed long r m t z =
+      let k : Combination-planned p c (s .comes) (s .place) (ns .passed) (ns .noted) =
+      combination-of p passes b o c l unmet q clock ends rows places counts noted prefix-ready (s .comes) (s .place) (ns .passed) (ns .noted) f in
+      let x = stored-of p passes b o c latest s ns k y comes place notes passed long r m t in
+      record { stored = x; clock = clock; since-stored = z; taken-over = prefix-taken (x .rows) (x .places) (x .held) }

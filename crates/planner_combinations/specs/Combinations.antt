@@ -7,7 +7,7 @@ use mathlib.Core.List.{List, map}
 use lib.Dec.{eqb}
 use lib.ListN.{length, getD, set}
 use lib.Seq.{sets}
-use Rattle.limits.specs.Limits.{ROWS, ENTRIES}
+use Rattle.limits.specs.Limits.{NODES, ROWS, ENTRIES}
 use Rattle.lists.specs.Lists.{keep, below, sum, greatest}
 use Rattle.model.specs.Plan.{Lines}
 use Rattle.model.specs.Bus.{rows, condition-row}
@@ -16,8 +16,8 @@ use Rattle.model.specs.Planning.{before, planned}
 use Rattle.model.specs.Refusals.{nothing, plan-refusal}
 use Rattle.model.specs.Table.{plans, passed-by, made-entries, result}
 use Rattle.log_queries.specs.Holding.{Held}
-use Rattle.plan_index.specs.declared.index.PlanIndex.{PlanIndex}
-use Rattle.plan_index.specs.Indexed.{Indexed}
+use Rattle.plan_index.specs.declared.PlanIndex.{PlanIndex}
+use Rattle.plan_layout.specs.Indexed.{Indexed}
 use Rattle.planner_combination.specs.Events.{from-clock}
 use Rattle.planner_combination.specs.Standing.{At}
 use Rattle.table_entries.specs.Logs.{block, numbered, plan-of}
@@ -54,6 +54,14 @@ pub record Earlier (p : Lines) (n : ℕ) (comes place notes : List ℕ) : Type 0
   pub noting : (c : ℕ) → c < n → (k : ℕ) → k < length (p .conditions) → 0 < getD (block comes c) (condition-row p k) 0 → (m : ℕ) → m < length (p .slots) →
       getD notes (c * 56 + (k * 8 + m)) 0 ≡ passes-by p m c (getD (block comes c) (condition-row p k) 0 - 1)
   pub counts : (c : ℕ) → c < n → (m : ℕ) → m < length (p .slots) → getD notes (c * 56 + 48 + m) 0 ≡ passes-of p m c
+
+-- The combinations below n are planned, whatever plan a plan index is of, and their counts are added: none has passed
+-- an item over more often than it has rows.
+pub record Before (b : PlanIndex) (n : ℕ) (comes place notes passed : List ℕ) : Type 0 where
+  pub place-long : length place ≡ ENTRIES
+  pub passed-long : length passed ≡ NODES
+  pub passed-few : (k : ℕ) → k < b .slots → getD passed k 0 ≤ ROWS * n
+  pub earlier : (p : Lines) → plan-refusal p ≡ nothing → Indexed p b → Earlier p n comes place notes
 
 -- Combination c is planned: its rows and what was noted are stored, its counts are added. `latest` is the tick at which
 -- its last process ends, or 0.

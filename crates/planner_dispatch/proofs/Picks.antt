@@ -5,10 +5,9 @@ use mathlib.Core.Path.{_≡_, refl, sym, ap, _∙_, subst}
 use mathlib.Core.Logic.{_⊎_, inl, inr}
 use mathlib.Core.Bool.{Bool, true, false}
 use mathlib.Core.List.{List, [], _∷_, map, List·Memᴰ as In, List·Memᴰ·head as here, List·Memᴰ·tail as there, List·Memᴰ·not-nil as in-none}
-use Prim.Native.Nat.{ℕ, zero, suc, _+_, _-_, _≤_, _<_}
-use native.Mathlib.Omega.{arith}
+use Prim.Native.Nat.{ℕ, _+_, _≤_, _<_}
 use lib.ListN.{getD}
-use Rattle.lists.specs.Lists.{if_then_else_, upfrom}
+use Rattle.lists.specs.Lists.{if_then_else_}
 use Rattle.lists.proofs.Tests.{two}
 use Rattle.lists.proofs.Loops.{upfrom-end}
 use Rattle.log_queries.specs.Reading.{part}
@@ -27,18 +26,6 @@ module _ (xs : List ℕ) (j b : ℕ) (l : j < b) (f : ℕ → Bool) where
 pub first-end : (xs : List ℕ) (j b : ℕ) (f : ℕ → Bool) → b ≤ j → first-of f (part xs j b) ≡ 64
 unfolding first-of part
 first-end xs j b f l = ap (λ (js : List ℕ). first-of f (map (λ j. getD xs j 0) js)) (upfrom-end b j l)
-
-pub first-low : (xs : List ℕ) (a b : ℕ) (f : ℕ → Bool) → ((j : ℕ) → getD xs j 0 < 64) → first-of f (part xs a b) ≤ 64
-unfolding first-of part
-first-low xs a b f h = go a (b - a)
-  where
-    one : (c : Bool) (x y : ℕ) → x < 64 → y ≤ 64 → (if c then x else y) ≤ 64
-    one true x y l m = omega arith
-    one false x y l m = m
-
-    go : (a n : ℕ) → first-of f (map (λ j. getD xs j 0) (upfrom a n)) ≤ 64
-    go a zero = omega arith
-    go a (suc n) = one (f (getD xs a 0)) (getD xs a 0) _ (h a) (go (suc a) n)
 
 -- no number passes, or the first that passes stands there
 pub first-none : (f : ℕ → Bool) (xs : List ℕ) → ((x : ℕ) → In x xs → f x ≡ false) → first-of f xs ≡ 64

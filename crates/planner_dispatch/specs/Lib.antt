@@ -2,3 +2,4 @@ pub mod Starts
 pub mod Busy
 pub mod Unchanged
 pub mod ChangedNodes
+pub mod Dispatching

@@ -1,7 +1,7 @@
--- The starts at one event, in the words of the arrays that hold the plan and a log (those of readiness), the processes
+-- The starts at one event, in the words of the arrays that hold the plan and a log (those of log_queries), the processes
 -- of each node in dispatch order, and their ticks. `busy`, by node, has the clock at which its last process ends, 0 if
 -- it has started none: the node is free where that is not after the clock `u`. The processes of node n are those of
--- `dispatch` from place turnfirst[n] to turnfirst[n + 1].
+-- `dispatch` from place dispatchfirst[n] to dispatchfirst[n + 1].
 -- Assumes nothing.
 use Prim.Native.Nat.{ℕ, zero, suc, _+_}
 use mathlib.Core.Bool.{Bool, _&&_}

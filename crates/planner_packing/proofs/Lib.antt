@@ -1,2 +1,3 @@
--- FilledParts has what the proof of `fill` rests on.
+-- Laws of a slot: FilledParts (what it leaves, part by part), Rests (what is left alone).
 pub mod FilledParts
+pub mod Rests

@@ -8,8 +8,8 @@ use mathlib.Core.List.{List}
 use lib.Dec.{eqb}
 use lib.ListN.{getD, set}
 use Rattle.lists.specs.Lists.{if_then_else_}
-use Rattle.planner_pending.specs.Packing.{Load, take-all, left-of, arrive-taken, arrive-all, broadcasts-sent, send-by, with-broadcast}
-use Rattle.planner_slot_times.specs.NextSends.{Relisted}
+use Rattle.planner_sends.specs.Packing.{Load, take-all, left-of, arrive-taken, arrive-all, broadcasts-sent, send-by, with-broadcast}
+use Rattle.planner_sends.specs.NextSends.{Relisted}
 
 -- what the bus leaves of an event
 pub record Bus : Type 0 where

@@ -1,37 +1,54 @@
 // What a slot takes as it begins: the pending broadcasts of its node, lowest condition number first, then the messages
-// that wait in the order of the queue, side by side from byte 0. planner_pending/specs/Packing.antt says the same of
-// the arrays.
+// that wait in the order of the queue, side by side from byte 0. specs/Sending.antt says the same of the arrays.
 use arrays::wide;
-use limits::CONDITIONS;
-use limits::EDGES;
-use limits::NODES;
-use limits::PROCESSES;
-use limits::ROWS;
-use planner_pending::Taken;
-use planner_pending::pending_broadcasts;
-use planner_pending::take_broadcasts;
+use log_rows::Rows;
+use log_rows::put_comes;
+use log_rows::put_place;
+use plan_index::Index;
+use plan_index::bytes_of;
+use plan_index::conditionrow_of;
+use plan_index::processes_of;
+use plan_index::queuefirst_of;
+use plan_index::remote_of;
+use plan_index::rooms_of;
+use plan_index::slots_of;
+use planner_nodes::Nodes;
+use planner_nodes::put_lastarrival;
+use planner_nodes::put_wait;
+use planner_nodes::wait_of;
+use planner_nodes::waitend_of;
+use planner_sends::Taken;
+use planner_sends::pending_broadcasts;
+use planner_sends::take_broadcasts;
 ghost use mathlib.Core.Path.{_≡_};
 ghost use mathlib.Core.List.{List·Memᴰ as In};
 ghost use Prim.Native.Nat.{ℕ, _+_, _-_, _<_, _≤_};
 ghost use lib.Dec.{leb};
-ghost use lib.ListN.{length, getD, set};
-ghost use Rattle.limits.specs.Limits.{NODES, PROCESSES, CONDITIONS, EDGES, CONDITIONROW};
+ghost use lib.ListN.{length, getD};
+ghost use Rattle.limits.specs.Limits.{NODES, EDGES};
 ghost use Rattle.lists.specs.Lists.{if_then_else_};
+ghost use Rattle.plan_index.specs.Index.{laid, Bounded};
+ghost use Rattle.log_rows.specs.Rows.{rows-of};
+ghost use Rattle.planner_nodes.specs.Nodes.{nodes-of, with-lastarrival, with-wait};
 ghost use Rattle.log_queries.specs.Reading.{part};
-ghost use Rattle.planner_pending.specs.Packing.{load, take-all, left-of, arrive-taken, arrive-all, Listed};
-ghost use Rattle.planner_pending.specs.Packing.{broadcasts-sent, with-broadcast};
+ghost use Rattle.planner_sends.specs.Packing.{arrive-all, Listed};
+ghost use Rattle.planner_sends.specs.NextSends.{Roomy};
+ghost use Rattle.planner_packing.specs.Sending.{lay-row, lay-node, Takes, Sendable, Sends-all};
 
-// Moves wait[j .. z] down to place k. The place behind them.
-fn move_down(wait: &mut [u32; EDGES], k: usize, j: usize, z: usize) -> usize
-    requires { ⌜ (k ≤ j) × (j ≤ z) × (z ≤ EDGES) × (length (now wait) ≡ EDGES) ⌝ }
-    ensures listed { λ r. ⌜ Listed (now (wait .entry)) (now (wait .exit)) k r (part (now (wait .entry)) j z) ⌝ }
+// Moves the messages that wait at the places from j to before z down to place k. The place behind them.
+fn move_down(nodes: &mut Nodes, k: usize, j: usize, z: usize) -> usize
+    requires { ⌜ (k ≤ j) × (j ≤ z) × (z ≤ EDGES) × (length (nodes-of (now nodes) .wait) ≡ EDGES) ⌝ }
+    ensures listed { λ r. ⌜ Listed (nodes-of (now (nodes .entry)) .wait) (nodes-of (now (nodes .exit)) .wait) k r
+        (part (nodes-of (now (nodes .entry)) .wait) j z) ⌝ }
     ensures behind { λ r. ⌜ r ≡ k + (z - j) ⌝ }
+    ensures rest { λ _. ⌜ nodes-of (now (nodes .exit)) ≡ with-wait (nodes-of (now (nodes .exit)) .wait)
+        (nodes-of (now (nodes .entry))) ⌝ }
 {
     let mut to = k;
     let mut i = j;
     while i < z {
-        let e = wait[i];
-        wait[to] = e;
+        let e = wait_of(nodes, i);
+        put_wait(nodes, to, e);
         to += 1;
         i += 1;
     }
@@ -39,36 +56,26 @@ fn move_down(wait: &mut [u32; EDGES], k: usize, j: usize, z: usize) -> usize
 }
 
 // Whether the message of edge e fits so many bytes.
-fn fits(bytes: &[u32; EDGES], e: u32, left: u32) -> bool
-    requires { ⌜ e < EDGES ⌝ }
-    ensures { λ r. ⌜ r ≡ leb (getD (now (bytes .entry)) e 0) left ⌝ }
+fn fits(index: &Index, e: u32, left: u32) -> bool
+    requires { ⌜ (e < EDGES) × Bounded (laid (now index)) ⌝ }
+    ensures { λ r. ⌜ r ≡ leb (getD (laid (now (index .entry)) .bytes) e 0) left ⌝ }
 {
-    bytes[e as usize] <= left
+    bytes_of(index, wide(e)) <= left
 }
 
 // The message of edge e goes with the slot that ends at `end`, from byte `used` on, and arrives at its receiver.
-fn lay(
-    processes: usize,
-    remote: &[u32; EDGES],
-    e: usize,
-    used: u32,
-    end: u32,
-    comes: &mut [u32; ROWS],
-    place: &mut [u32; ROWS],
-    lastarrival: &mut [u32; NODES],
-)
-    requires { ⌜ (processes ≤ PROCESSES) × (e < EDGES) × (1 ≤ getD (now remote) e 0)
-        × (getD (now remote) e 0 ≤ NODES) ⌝ }
-    ensures rows { λ _. ⌜ now (comes .exit) ≡ set (now (comes .entry)) (processes + e) end ⌝ }
-    ensures places { λ _. ⌜ now (place .exit) ≡ set (now (place .entry)) (processes + e) used ⌝ }
-    ensures arrivals { λ _. ⌜ now (lastarrival .exit)
-        ≡ set (now (lastarrival .entry)) (getD (now (remote .entry)) e 0 - 1) end ⌝ }
+fn lay(index: &Index, e: usize, used: u32, end: u32, rows: &mut Rows, nodes: &mut Nodes)
+    requires { ⌜ (e < EDGES) × (1 ≤ getD (laid (now index) .remote) e 0) × Bounded (laid (now index)) ⌝ }
+    ensures rows { λ _. ⌜ rows-of (now (rows .exit)) ≡ lay-row (laid (now (index .entry))) e used end
+        (rows-of (now (rows .entry))) ⌝ }
+    ensures arrivals { λ _. ⌜ nodes-of (now (nodes .exit)) ≡ lay-node (laid (now (index .entry))) e end
+        (nodes-of (now (nodes .entry))) ⌝ }
 {
-    let row = processes + e;
-    comes[row] = end;
-    place[row] = used;
-    let to = wide(remote[e]);
-    lastarrival[to - 1] = end;
+    let row = processes_of(index) + e;
+    put_comes(rows, row, end);
+    put_place(rows, row, used);
+    let to = wide(remote_of(index, e));
+    put_lastarrival(nodes, to - 1, end);
 }
 
 // What a slot took: the bytes used, whether a ready item was not taken, and the place behind the messages that are
@@ -79,36 +86,24 @@ struct Packed {
     behind: usize,
 }
 
-// Then the messages that wait, wait[a .. z], in the order of the queue. One that does not fit the bytes left is passed
-// over and the next is tried; the scan is left when the slot is full or the candidates end. Those that are left stand
-// from place a on.
-fn take_messages<'a>(
-    processes: usize,
-    bytes: &'a [u32; EDGES],
-    remote: &'a [u32; EDGES],
+// Then the messages that wait at the places from a to before z, in the order of the queue. One that does not fit the
+// bytes left is passed over and the next is tried; the scan is left when the slot is full or the candidates end. Those
+// that are left stand from place a on.
+fn take_messages(
+    index: &Index,
     a: usize,
     z: usize,
     room: u32,
     end: u32,
     first: Taken,
-    wait: &mut [u32; EDGES],
-    comes: &mut [u32; ROWS],
-    place: &mut [u32; ROWS],
-    lastarrival: &mut [u32; NODES],
+    rows: &mut Rows,
+    nodes: &mut Nodes,
 ) -> Packed
-    requires { ⌜ (processes ≤ PROCESSES) × (a ≤ z) × (z ≤ EDGES) × (first .used ≤ room) × (length (now wait) ≡ EDGES)
-        × ((j : ℕ) → getD (now wait) j 0 < EDGES) × ((e : ℕ) → In e (part (now wait) a z) → 1 ≤ getD (now remote) e 0)
-        × ((e : ℕ) → getD (now remote) e 0 ≤ NODES) ⌝ }
-    ensures load { λ r. ⌜ load (r .used) (r .short) (now (comes .exit)) (now (place .exit))
-        ≡ take-all processes (now (bytes .entry)) room end (part (now (wait .entry)) a z)
-        (load (first .used) (first .short) (now (comes .entry)) (now (place .entry))) ⌝ }
-    ensures left { λ r. ⌜ Listed (now (wait .entry)) (now (wait .exit)) a (r .behind)
-        (left-of processes (now (bytes .entry)) room end (part (now (wait .entry)) a z)
-        (load (first .used) (first .short) (now (comes .entry)) (now (place .entry)))) ⌝ }
-    ensures upto { λ r. ⌜ r .behind ≤ z ⌝ }
-    ensures arrivals { λ r. ⌜ now (lastarrival .exit)
-        ≡ arrive-taken processes (now (bytes .entry)) room end (now (remote .entry)) (part (now (wait .entry)) a z)
-        (load (first .used) (first .short) (now (comes .entry)) (now (place .entry))) (now (lastarrival .entry)) ⌝ }
+    requires { ⌜ (a ≤ z) × (z ≤ EDGES) × (first .used ≤ room) × Bounded (laid (now index))
+        × Roomy (nodes-of (now nodes) .wait) (nodes-of (now nodes) .waitend)
+        × ((e : ℕ) → In e (part (nodes-of (now nodes) .wait) a z) → 1 ≤ getD (laid (now index) .remote) e 0) ⌝ }
+    ensures { λ r. ⌜ Takes (laid (now (index .entry))) a z room end first (rows-of (now (rows .entry)))
+        (nodes-of (now (nodes .entry))) r (rows-of (now (rows .exit))) (nodes-of (now (nodes .exit))) ⌝ }
 {
     let mut used = first.used;
     let mut short = first.short;
@@ -122,21 +117,21 @@ fn take_messages<'a>(
             break 'slot;
         }
         // on to the next that fits
-        while !fits(bytes, wait[j], left) {
+        while !fits(index, wait_of(nodes, j), left) {
             short = true;
             j += 1;
             if j == z {
                 break 'slot;
             }
         }
-        k = move_down(wait, k, next, j);
-        let e = wide(wait[j]);
-        lay(processes, remote, e, used, end, comes, place, lastarrival);
-        used += bytes[e];
+        k = move_down(nodes, k, next, j);
+        let e = wide(wait_of(nodes, j));
+        lay(index, e, used, end, rows, nodes);
+        used += bytes_of(index, e);
         j += 1;
         next = j;
     }
-    let behind = move_down(wait, k, next, z);
+    let behind = move_down(nodes, k, next, z);
     Packed {
         used,
         short,
@@ -145,25 +140,28 @@ fn take_messages<'a>(
 }
 
 // An item arrives at every node at clock `end`.
-fn arrive_all(slots: usize, end: u32, lastarrival: &mut [u32; NODES])
+fn arrive_all(slots: usize, end: u32, nodes: &mut Nodes)
     requires { ⌜ slots ≤ NODES ⌝ }
-    ensures { λ _. ⌜ now (lastarrival .exit) ≡ arrive-all end slots (now (lastarrival .entry)) ⌝ }
+    ensures { λ _. ⌜ nodes-of (now (nodes .exit))
+        ≡ with-lastarrival (arrive-all end slots (nodes-of (now (nodes .entry)) .lastarrival))
+        (nodes-of (now (nodes .entry))) ⌝ }
 {
     let mut n: usize = 0;
     while n < slots {
-        lastarrival[n] = end;
+        put_lastarrival(nodes, n, end);
         n += 1;
     }
 }
 
 // A broadcast, if there is one among the items, arrives at every node.
-fn arrive(broadcast: bool, slots: usize, end: u32, lastarrival: &mut [u32; NODES])
+fn arrive(broadcast: bool, slots: usize, end: u32, nodes: &mut Nodes)
     requires { ⌜ slots ≤ NODES ⌝ }
-    ensures { λ _. ⌜ now (lastarrival .exit) ≡ (if broadcast then arrive-all end slots (now (lastarrival .entry)) else
-        now (lastarrival .entry)) ⌝ }
+    ensures { λ _. ⌜ nodes-of (now (nodes .exit))
+        ≡ with-lastarrival (if broadcast then arrive-all end slots (nodes-of (now (nodes .entry)) .lastarrival) else
+        nodes-of (now (nodes .entry)) .lastarrival) (nodes-of (now (nodes .entry))) ⌝ }
 {
     if broadcast {
-        arrive_all(slots, end, lastarrival);
+        arrive_all(slots, end, nodes);
     }
 }
 
@@ -176,69 +174,30 @@ pub struct Sent {
     pub behind: usize,
 }
 
-// Puts all that the slot of node n takes at clock u into two arrays by row: `comes` has the clock at which an item
-// arrives, `place` its first byte in the frame. The slot has `room` bytes and ends at clock `end`; the node's messages
-// that wait are wait[a .. z], and those that are left stand from place a on.
-// `lastarrival` has the slot's end for each node at which an item arrives.
-pub(crate) fn send<'a>(
-    processes: usize,
-    conditionrow: usize,
-    conditions: usize,
-    slots: usize,
-    decider: &'a [u32; CONDITIONS],
-    node: &'a [u32; PROCESSES],
-    bytes: &'a [u32; EDGES],
-    remote: &'a [u32; EDGES],
-    n: u32,
-    a: usize,
-    z: usize,
-    room: u32,
+// Enters all that the slot of node n takes at clock u in the rows: `comes` has the clock at which an item arrives,
+// `place` its first byte in the frame. The slot ends at clock `end`. By node, the messages that are left stand from the
+// place of the node's queue on, and `lastarrival` has the slot's end for each node at which an item arrives.
+pub(crate) fn send(
+    index: &Index,
+    n: usize,
     u: u32,
     end: u32,
-    wait: &mut [u32; EDGES],
-    comes: &mut [u32; ROWS],
-    place: &mut [u32; ROWS],
-    lastarrival: &mut [u32; NODES],
+    rows: &mut Rows,
+    nodes: &mut Nodes,
 ) -> Sent
-    requires { ⌜ (processes ≤ PROCESSES) × (conditionrow ≤ CONDITIONROW) × (conditions ≤ CONDITIONS) × (slots ≤ NODES)
-        × (a ≤ z) × (z ≤ EDGES) × ((k : ℕ) → getD (now decider) k 0 < PROCESSES) × (length (now wait) ≡ EDGES)
-        × ((j : ℕ) → getD (now wait) j 0 < EDGES) × ((e : ℕ) → In e (part (now wait) a z) → 1 ≤ getD (now remote) e 0)
-        × ((e : ℕ) → getD (now remote) e 0 ≤ NODES) ⌝ }
-    ensures load { λ r. ⌜ load (r .used) (r .short) (now (comes .exit)) (now (place .exit))
-        ≡ take-all processes (now (bytes .entry)) room end (part (now (wait .entry)) a z)
-        (broadcasts-sent conditionrow conditions (now (decider .entry)) (now (node .entry)) n room u end
-        (now (comes .entry)) (now (place .entry))) ⌝ }
-    ensures broadcast { λ r. ⌜ r .broadcast ≡ with-broadcast conditionrow conditions (now (decider .entry))
-        (now (node .entry)) n room u end (now (comes .entry)) (now (place .entry)) ⌝ }
-    ensures left { λ r. ⌜ Listed (now (wait .entry)) (now (wait .exit)) a (r .behind)
-        (left-of processes (now (bytes .entry)) room end (part (now (wait .entry)) a z)
-        (broadcasts-sent conditionrow conditions (now (decider .entry)) (now (node .entry)) n room u end
-        (now (comes .entry)) (now (place .entry)))) ⌝ }
-    ensures upto { λ r. ⌜ r .behind ≤ z ⌝ }
-    ensures arrivals { λ r. ⌜ now (lastarrival .exit)
-        ≡ arrive-taken processes (now (bytes .entry)) room end (now (remote .entry)) (part (now (wait .entry)) a z)
-        (broadcasts-sent conditionrow conditions (now (decider .entry)) (now (node .entry)) n room u end
-        (now (comes .entry)) (now (place .entry))) (if r .broadcast then arrive-all end slots (now (lastarrival .entry))
-        else now (lastarrival .entry)) ⌝ }
+    requires { ⌜ (n < laid (now index) .slots) × Bounded (laid (now index))
+        × Sendable (laid (now index)) (nodes-of (now nodes)) n u ⌝ }
+    ensures { λ r. ⌜ Sends-all (laid (now (index .entry))) n u end (rows-of (now (rows .entry)))
+        (nodes-of (now (nodes .entry))) r (rows-of (now (rows .exit))) (nodes-of (now (nodes .exit))) ⌝ }
 {
-    let mask = pending_broadcasts(conditionrow, conditions, decider, node, comes, n, u);
-    let first = take_broadcasts(mask, conditionrow, room, end, comes, place);
+    let a = queuefirst_of(index, n);
+    let z = waitend_of(nodes, n);
+    let room = rooms_of(index, n);
+    let mask = pending_broadcasts(index, rows, n, u);
+    let first = take_broadcasts(mask, conditionrow_of(index), room, end, rows);
     let broadcast = 0 < first.used;
-    arrive(broadcast, slots, end, lastarrival);
-    let all = take_messages(
-        processes,
-        bytes,
-        remote,
-        a,
-        z,
-        room,
-        end,
-        first,
-        wait,
-        comes,
-        place,
-        lastarrival,
-    );
+    arrive(broadcast, slots_of(index), end, nodes);
+    let all = take_messages(index, a, z, room, end, first, rows, nodes);
     Sent {
         used: all.used,
         broadcast,

@@ -9,6 +9,9 @@ use lib.ListN.{getD, set, replicate}
 use Rattle.limits.specs.Limits.{ROWS, NEVER}
 use Rattle.lists.specs.Lists.{if_then_else_, fill}
 use Rattle.table_entries.specs.Logs.{block}
+use Rattle.plan_index.specs.declared.PlanIndex.{PlanIndex}
+use Rattle.log_rows.specs.Rows.{Rows, no-rows, with-comes, with-place}
+use Rattle.planner_nodes.specs.Nodes.{Nodes, no-nodes, with-busy, with-passed, with-noted}
 use Rattle.planner_prefix.specs.declared.prefix.Source.{Source}
 
 -- a row that is over at clock x and lasts so many ticks, where it was placed before clock u, 0 otherwise
@@ -76,3 +79,9 @@ pub data Prefix-shared (processes conditionrow conditions slots c clock : ℕ) (
       Prefix-shared processes conditionrow conditions slots c clock node lasting comes place notes rows places ends counts noted
   goes-on : 0 < c → Taken-from (source-among comes conditionrow c conditions) processes slots clock node lasting comes place notes rows places ends counts noted →
       Prefix-shared processes conditionrow conditions slots c clock node lasting comes place notes rows places ends counts noted
+
+-- The same of rows and nodes that were empty before: nothing else is in them.
+pub record Shared (b : PlanIndex) (c clock : ℕ) (comes place notes : List ℕ) (s : Rows) (ns : Nodes) : Type 0 where
+  pub prefix : Prefix-shared (b .processes) (b .conditionrow) (b .conditions) (b .slots) c clock (b .node) (b .span) comes place notes (s .comes) (s .place) (ns .busy) (ns .passed) (ns .noted)
+  pub rows-rest : s ≡ with-place (s .place) (with-comes (s .comes) no-rows)
+  pub nodes-rest : ns ≡ with-noted (ns .noted) (with-passed (ns .passed) (with-busy (ns .busy) no-nodes))

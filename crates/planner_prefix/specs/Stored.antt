@@ -7,17 +7,18 @@ use mathlib.Core.List.{List}
 use lib.ListN.{getD, set}
 use lib.Seq.{sets}
 use Rattle.limits.specs.Limits.{ROWS}
+use Rattle.log_rows.specs.Rows.{Rows}
+use Rattle.planner_nodes.specs.Nodes.{Nodes}
 
 -- counts added to totals, for the first n nodes
 unfoldable pub added : List ℕ → List ℕ → ℕ → List ℕ
 added counts totals zero = totals
 added counts totals (suc n) = set (added counts totals n) n (getD (added counts totals n) n 0 + getD counts n 0)
 
--- Combination c's rows and what was noted stand in its parts of the arrays, as does the clock up to which it is taken
--- over, and its counts are added to those of the first nodes.
-pub record Kept (c clock slots : ℕ) (rows places counts noted comes place since notes passed comes-after place-after since-after notes-after passed-after : List ℕ) : Type 0 where
-  pub rows-stored : comes-after ≡ sets comes (c * ROWS) rows
-  pub places-stored : place-after ≡ sets place (c * ROWS) places
-  pub since-stored : since-after ≡ set since c clock
-  pub notes-stored : notes-after ≡ sets (sets notes (c * 56) noted) (c * 56 + 48) counts
-  pub counts-added : passed-after ≡ added counts passed slots
+-- Combination c's rows, and what was noted for it and its last counts, stand in its parts of the arrays.
+pub record Rows-kept (c : ℕ) (s : Rows) (comes place comes-after place-after : List ℕ) : Type 0 where
+  pub rows-stored : comes-after ≡ sets comes (c * ROWS) (s .comes)
+  pub places-stored : place-after ≡ sets place (c * ROWS) (s .place)
+
+abbrev pub Notes-kept : ℕ → Nodes → List ℕ → List ℕ → Type 0
+Notes-kept c ns notes notes-after = notes-after ≡ sets (sets notes (c * 56) (ns .noted)) (c * 56 + 48) (ns .passed)

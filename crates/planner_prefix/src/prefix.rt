@@ -1,27 +1,45 @@
 // What a combination takes over from an earlier one that differs from it in one value: the rows placed before that
 // value arrives, and what was counted and noted by then. Combination c's row r stands at place c * ROWS + r.
 // specs/Prefix.antt says what the arrays hold.
-use arrays::copy_part;
+use crate::parts::clear;
+use crate::parts::copy_numbers;
 use arrays::difference;
 use arrays::greater;
-use arrays::no_counts;
-use arrays::no_rows;
-use arrays::wide;
 use limits::COMBINATIONNOTES;
 use limits::ENTRIES;
 use limits::NEVER;
 use limits::NODES;
 use limits::NOTED;
 use limits::NOTES;
-use limits::PROCESSES;
 use limits::ROWS;
+use log_rows::COMES_AT;
+use log_rows::PLACE_AT;
+use log_rows::Rows;
+use log_rows::WORDS;
+use log_rows::comes_of;
+use log_rows::put_comes;
+use plan_index::Index;
+use plan_index::conditionrow_of;
+use plan_index::conditions_of;
+use plan_index::node_of;
+use plan_index::processes_of;
+use plan_index::slots_of;
+use plan_index::span_of;
+use planner_nodes::NOTED_AT;
+use planner_nodes::Nodes;
+use planner_nodes::PASSED_AT;
+use planner_nodes::busy_of;
+use planner_nodes::put_busy;
 ghost use mathlib.Core.Path.{_≡_};
-ghost use Prim.Native.Nat.{ℕ, _^_, _<_, _≤_};
-ghost use lib.ListN.{getD, length, replicate};
-ghost use Rattle.limits.specs.Limits.{NODES, PROCESSES, CONDITIONS, COMBINATIONS, CONDITIONROW, ROWS, ENTRIES, NOTED};
+ghost use Prim.Native.Nat.{_^_, _<_, _≤_};
+ghost use lib.ListN.{length, replicate};
+ghost use Rattle.limits.specs.Limits.{NODES, CONDITIONS, COMBINATIONS, CONDITIONROW, ROWS, ENTRIES};
+ghost use Rattle.plan_index.specs.Index.{laid, Bounded};
+ghost use Rattle.log_rows.specs.Rows.{rows-of, with-comes};
+ghost use Rattle.planner_nodes.specs.Nodes.{nodes-of, no-nodes, with-busy};
 ghost use Rattle.table_entries.specs.Logs.{block};
 ghost use Rattle.planner_prefix.specs.Prefix.{cut-one, cut, ends-below, arrival, later-by, source-among};
-ghost use Rattle.planner_prefix.specs.Prefix.{counts-at, Prefix-shared};
+ghost use Rattle.planner_prefix.specs.Prefix.{counts-at, Shared};
 
 // The combination that another takes over from, the condition in which the two differ, and the clock up to which they
 // are planned alike: that at which the condition's value arrives, or `NEVER` where it never does.
@@ -103,37 +121,34 @@ fn cut_row(x: u32, lasts: u32, u: u32) -> u32
     0
 }
 
-// The rows of combination d that were placed before clock u.
-fn cut_rows<'a>(all: &'a [u32; ENTRIES], d: usize, lasting: &'a [u32; ROWS], u: u32) -> [u32; ROWS]
-    requires { ⌜ d < COMBINATIONS ⌝ }
-    ensures { λ r. ⌜ r ≡ cut (block (now (all .entry)) d) (now (lasting .entry)) u ⌝ }
+// The rows of combination d that were placed before clock u, whatever rows are there before.
+fn cut_rows(index: &Index, all: &[u32; ENTRIES], d: usize, u: u32, rows: &mut Rows)
+    requires { ⌜ (d < COMBINATIONS) × Bounded (laid (now index)) × (length (rows-of (now rows) .comes) ≡ ROWS) ⌝ }
+    ensures { λ _. ⌜ rows-of (now (rows .exit)) ≡ with-comes (cut (block (now (all .entry)) d)
+        (laid (now (index .entry)) .span) u) (rows-of (now (rows .entry))) ⌝ }
 {
-    let mut rows = no_rows();
     let mut r: usize = 0;
     while r < ROWS {
-        rows[r] = cut_row(all[d * ROWS + r], lasting[r], u);
+        let x = cut_row(all[d * ROWS + r], span_of(index, r), u);
+        put_comes(rows, r, x);
         r += 1;
     }
-    rows
 }
 
-// By node, the last end of a process among some rows.
-fn last_ends<'a>(
-    node: &'a [u32; PROCESSES],
-    rows: &'a [u32; ROWS],
-    processes: usize,
-) -> [u32; NODES]
-    requires { ⌜ (processes ≤ PROCESSES) × ((i : ℕ) → getD (now node) i 0 < NODES) ⌝ }
-    ensures { λ r. ⌜ r ≡ ends-below (now (node .entry)) (now (rows .entry)) processes ⌝ }
+// By node, the last end of a process among some rows, where none is known before.
+fn last_ends(index: &Index, rows: &Rows, nodes: &mut Nodes)
+    requires { ⌜ Bounded (laid (now index)) × (nodes-of (now nodes) .busy ≡ replicate NODES 0) ⌝ }
+    ensures { λ _. ⌜ nodes-of (now (nodes .exit)) ≡ with-busy (ends-below (laid (now (index .entry)) .node)
+        (rows-of (now (rows .entry)) .comes) (laid (now (index .entry)) .processes)) (nodes-of (now (nodes .entry))) ⌝ }
 {
-    let mut ends = no_counts();
+    let processes = processes_of(index);
     let mut i: usize = 0;
     while i < processes {
-        let n = wide(node[i]);
-        ends[n] = greater(ends[n], rows[i]);
+        let n = node_of(index, i);
+        let x = greater(busy_of(nodes, n), comes_of(rows, i));
+        put_busy(nodes, n, x);
         i += 1;
     }
-    ends
 }
 
 // Where the counts of a source stand: those noted as its condition's value arrives, or the last ones where it never
@@ -148,44 +163,35 @@ fn place_of_counts(s: Source) -> usize
     s.from * COMBINATIONNOTES + s.condition * NODES
 }
 
-// What combination c takes over: the answer is the clock from which it is planned, and the arrays, which are zeros
-// before, hold what is placed before that clock, by node the last end of a process, and what was counted and noted by
-// then. Combination 0 begins from nothing at clock 1.
-pub fn shared_prefix<'a>(
+// What combination c takes over: the answer is the clock from which it is planned. The rows, whatever they hold before,
+// and the nodes, which are empty before, hold what is placed before that clock, by node the last end of a process, and
+// what was counted and noted by then. Combination 0 begins from nothing at clock 1.
+pub fn shared_prefix(
+    index: &Index,
     c: usize,
-    processes: usize,
-    conditionrow: usize,
-    conditions: usize,
-    slots: usize,
-    node: &'a [u32; PROCESSES],
-    span: &'a [u32; ROWS],
-    comes: &'a [u32; ENTRIES],
-    place: &'a [u32; ENTRIES],
-    notes: &'a [u32; NOTES],
-    rows: &mut [u32; ROWS],
-    places: &mut [u32; ROWS],
-    ends: &mut [u32; NODES],
-    counts: &mut [u32; NODES],
-    noted: &mut [u32; NOTED],
+    comes: &[u32; ENTRIES],
+    place: &[u32; ENTRIES],
+    notes: &[u32; NOTES],
+    rows: &mut Rows,
+    nodes: &mut Nodes,
 ) -> u32
-    requires { ⌜ (c < COMBINATIONS) × (c < 2 ^ conditions) × (processes ≤ PROCESSES) × (conditionrow ≤ CONDITIONROW)
-        × (conditions ≤ CONDITIONS) × (slots ≤ NODES) × ((i : ℕ) → getD (now node) i 0 < NODES)
-        × (length (now place) ≡ ENTRIES) ⌝ ∗ ⌜ (now rows ≡ replicate ROWS 0) × (now places ≡ replicate ROWS 0)
-        × (now ends ≡ replicate NODES 0) × (now counts ≡ replicate NODES 0) × (now noted ≡ replicate NOTED 0) ⌝ }
-    ensures { λ r. ⌜ Prefix-shared processes conditionrow conditions slots c r (now (node .entry)) (now (span .entry))
-        (now (comes .entry)) (now (place .entry)) (now (notes .entry)) (now (rows .exit)) (now (places .exit))
-        (now (ends .exit)) (now (counts .exit)) (now (noted .exit)) ⌝ }
+    requires { ⌜ (c < COMBINATIONS) × (c < 2 ^ laid (now index) .conditions) × Bounded (laid (now index))
+        × (length (now place) ≡ ENTRIES) × (nodes-of (now nodes) ≡ no-nodes) ⌝ }
+    ensures { λ r. ⌜ Shared (laid (now (index .entry))) c r (now (comes .entry)) (now (place .entry))
+        (now (notes .entry)) (rows-of (now (rows .exit))) (nodes-of (now (nodes .exit))) ⌝ }
 {
     if c == 0 {
+        clear(rows, WORDS);
         return 1;
     }
-    let s = source_of(comes, conditionrow, conditions, c);
+    clear(rows, COMES_AT);
+    let s = source_of(comes, conditionrow_of(index), conditions_of(index), c);
     let from = s.from;
     let clock = s.clock;
-    *rows = cut_rows(comes, from, span, clock);
-    copy_part(place, from * ROWS, ROWS, places);
-    *ends = last_ends(node, rows, processes);
-    copy_part(notes, place_of_counts(s), slots, counts);
-    copy_part(notes, from * COMBINATIONNOTES, NOTED, noted);
+    cut_rows(index, comes, from, clock, rows);
+    copy_numbers(place, from * ROWS, ROWS, rows, PLACE_AT);
+    last_ends(index, rows, nodes);
+    copy_numbers(notes, place_of_counts(s), slots_of(index), nodes, PASSED_AT);
+    copy_numbers(notes, from * COMBINATIONNOTES, NOTED, nodes, NOTED_AT);
     clock
 }

@@ -8,9 +8,9 @@ use lib.ListN.{length}
 use Rattle.model.specs.Plan.{Lines}
 use Rattle.model.specs.Bus.{rows}
 use Rattle.model.specs.Refusals.{nothing, plan-refusal}
-use Rattle.plan_index.specs.declared.index.PlanIndex.{PlanIndex}
-use Rattle.plan_index.specs.Indexed.{Indexed}
-use Rattle.table_entries.specs.Numbers.{row-numbers, Readable}
+use Rattle.plan_index.specs.declared.PlanIndex.{PlanIndex}
+use Rattle.plan_layout.specs.Indexed.{Indexed}
+use Rattle.table_entries.specs.Numbers.{row-numbers, numbers-of, Readable}
 use Rattle.table_entries.specs.Listed.{Listed}
 use Rattle.table_entries.specs.Logs.{entry-from, Logs}
 use Rattle.table_entries.proofs.EntriesOfModel.{readable, row-link, words-link, words-count}
@@ -40,7 +40,7 @@ numbers-back r [] = refl
 numbers-back r (x ∷ xs) = λ i. number-back r x i ∷ numbers-back r xs i
 
 pub entered : (b : PlanIndex) (comes place since : List ℕ) (combinations : ℕ) → combinations ≡ 2 ^ b .conditions → (list ends : List ℕ) (count : ℕ) →
-    Listed (row-numbers comes place (b .conditionrow) (b .conditions) since (b .span) combinations) list ends (b .rows) count →
+    Listed (numbers-of b comes place since combinations) list ends (b .rows) count →
     (p : Lines) → plan-refusal p ≡ nothing → Indexed p b → Logs p comes place since (b .span) → Entered p list ends count
 entered b comes place since n q list ends count listed p fine o L =
     let conditionrow : b .conditionrow ≡ length (p .processes) + length (p .edges) = o .first-condition-row ∙ (λ i. o .processes-count i + o .edges-count i) in

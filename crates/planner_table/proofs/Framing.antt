@@ -10,16 +10,16 @@ use Rattle.model.specs.Plan.{Lines}
 use Rattle.model.specs.Bus.{rows}
 use Rattle.model.specs.Refusals.{nothing, plan-refusal}
 use Rattle.model.specs.Table.{plans, row-entries, result, entry-words, frame-words}
-use Rattle.plan_index.specs.declared.index.PlanIndex.{PlanIndex}
-use Rattle.plan_index.specs.Indexed.{Indexed}
+use Rattle.plan_index.specs.declared.PlanIndex.{PlanIndex}
+use Rattle.plan_layout.specs.Indexed.{Indexed}
 use Rattle.table_entries.specs.Words.{Laid, table}
-use Rattle.table_frames.specs.Packed.{Rows, Holding, packed-frames, packed-words}
+use Rattle.table_frames.specs.Packed.{Rows, Holding, packed-frames, frames-of, packed-words}
 use Rattle.table_frames.proofs.FramesOfModel.{collected-words, collected-small, collected-count}
 use Rattle.planner_table.specs.Planner.{Entered}
 
 -- the entries lie row after row, as many as counted
-pub laid-of : (b : PlanIndex) (list ends : List ℕ) (count : ℕ) (p : Lines) → Indexed p b → Entered p list ends count → Laid list ends (b .rows) × (getD ends (b .rows) 0 ≡ count)
-laid-of b list ends count p o e = rw (o .row-count) (e .laid, e .last)
+pub laid-of : (b : PlanIndex) (list ends : List ℕ) (count : ℕ) (p : Lines) → Indexed p b → Entered p list ends count → {r : ℕ} → r ≡ b .rows → Laid list ends r × (getD ends r 0 ≡ count)
+laid-of b list ends count p o e {r} q = let m : r ≡ rows p = q ∙ o .row-count in rw m (e .laid, e .last)
 
 -- the rows of the items can be collected from
 pub rows-of : (b : PlanIndex) (list ends : List ℕ) (count : ℕ) (p : Lines) → Indexed p b → Entered p list ends count → Rows list ends (b .processes) (b .rows)
@@ -42,7 +42,7 @@ pub record Framed (p : Lines) (out : List ℕ) (n : ℕ) : Type 0 where
   pub small : (i : ℕ) → i < n → getD out i 0 < 4398046511104
   pub counted : length (frame-words (result p .frames)) ≡ 3 * n
 
-pub framed : (b : PlanIndex) (list ends : List ℕ) (count : ℕ) (out : List ℕ) (n : ℕ) → take n out ≡ packed-frames list ends (b .sender) (b .size) (b .processes) (b .rows) →
+pub framed : (b : PlanIndex) (list ends : List ℕ) (count : ℕ) (out : List ℕ) (n : ℕ) → take n out ≡ frames-of b list ends →
     n ≤ getD ends (b .rows) 0 → length out ≡ 12672 →
     (p : Lines) → plan-refusal p ≡ nothing → Indexed p b → Entered p list ends count → Framed p out n
 framed b list ends count out n t l long p fine o e =
@@ -61,9 +61,9 @@ framed b list ends count out n t l long p fine o e =
     }
 
 -- what is written of both are the words of the table and of the frame list
-pub words-front : (b : PlanIndex) (list ends : List ℕ) (count : ℕ) (p : Lines) → Indexed p b → Entered p list ends count → (lent : List ℕ) {now : List ℕ} →
-    now ≡ front (table list ends (b .rows)) lent → now ≡ front (entry-words (result p .entries)) lent
-words-front b list ends count p o e lent q = q ∙ ap (λ (k : ℕ). front (table list ends k) lent) (o .row-count) ∙ ap (λ (ws : List ℕ). front ws lent) (sym (e .words))
+pub words-front : (b : PlanIndex) (list ends : List ℕ) (count : ℕ) (p : Lines) → Indexed p b → Entered p list ends count → (lent : List ℕ) {now : List ℕ} {r : ℕ} → r ≡ b .rows →
+    now ≡ front (table list ends r) lent → now ≡ front (entry-words (result p .entries)) lent
+words-front b list ends count p o e lent m q = q ∙ ap (λ (k : ℕ). front (table list ends k) lent) (m ∙ o .row-count) ∙ ap (λ (ws : List ℕ). front ws lent) (sym (e .words))
 
 pub frames-front : (p : Lines) (out : List ℕ) (n : ℕ) → Framed p out n → (lent : List ℕ) {now : List ℕ} → now ≡ front (packed-words (take n out)) lent → now ≡ front (frame-words (result p .frames)) lent
 frames-front p out n f lent q = q ∙ ap (λ (ws : List ℕ). front ws lent) (f .words)

@@ -9,8 +9,8 @@ use Rattle.model.specs.Plan.{Lines}
 use Rattle.model.specs.Bus.{rows}
 use Rattle.model.specs.Refusals.{nothing, plan-refusal}
 use Rattle.model.specs.Table.{Answer, turned-down, made, plans, row-entries, result, entry-words, frame-words, plan-answer, table-after, frames-after, counts-after}
-use Rattle.plan_index.specs.declared.index.PlanIndex.{PlanIndex}
-use Rattle.plan_index.specs.Indexed.{Indexed}
+use Rattle.plan_index.specs.declared.PlanIndex.{PlanIndex}
+use Rattle.plan_layout.specs.Indexed.{Indexed}
 use Rattle.table_entries.specs.Logs.{Logs}
 use Rattle.table_entries.specs.Words.{Laid, table}
 use Rattle.table_frames.specs.Packed.{packed-entry}

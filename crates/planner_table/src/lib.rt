@@ -8,8 +8,11 @@ use limits::ENTRIES;
 use limits::NODES;
 use limits::ROWENDS;
 use plan::Plan;
-use plan_index::PlanIndex;
-use plan_index::of_plan;
+use plan_index::Index;
+use plan_index::conditions_of;
+use plan_index::rows_of;
+use plan_index::slots_of;
+use plan_layout::of_plan;
 use planner_combinations::Totals;
 use planner_combinations::how_many;
 use planner_combinations::plan_combinations;
@@ -27,7 +30,8 @@ ghost use Rattle.model.specs.Plan.{Lines};
 ghost use Rattle.model.specs.Refusals.{nothing, plan-refusal};
 ghost use Rattle.model.specs.Table.{result};
 ghost use Rattle.plan.specs.Memory.{lines};
-ghost use Rattle.plan_index.specs.Indexed.{Indexed};
+ghost use Rattle.plan_index.specs.Index.{laid};
+ghost use Rattle.plan_layout.specs.Indexed.{Indexed};
 ghost use Rattle.table_entries.specs.Logs.{Logs};
 ghost use Rattle.planner_combinations.specs.Combinations.{Planned-all};
 ghost use Rattle.planner_table.specs.Planner.{Some-logs, Some-plans, Entered, Answers};
@@ -61,33 +65,22 @@ fn no_clocks() -> [u32; COMBINATIONS]
 // The entries of the table as numbers in `list`, row r's from place ends[r] up to place ends[r + 1]. How many there are
 // in all. A row that starts before clock `since[c]` in combination c has the same entry in an earlier combination, and
 // is listed there.
-fn list_entries<'a>(
-    b: PlanIndex,
-    comes: &'a [u32; ENTRIES],
-    place: &'a [u32; ENTRIES],
-    since: &'a [u32; COMBINATIONS],
+fn list_entries(
+    index: &Index,
+    comes: &[u32; ENTRIES],
+    place: &[u32; ENTRIES],
+    since: &[u32; COMBINATIONS],
     list: &mut [u64; ENTRIES],
     ends: &mut [u32; ROWENDS],
 ) -> usize
-    requires { ⌜ Some-logs b (now comes) (now place) (now since) ⌝
-        ∗ ⌜ (length (now list) ≡ ENTRIES) × (length (now ends) ≡ ROWENDS) ⌝ }
-    ensures { λ count. ⌜ ((p : Lines) → plan-refusal p
-        ≡ nothing → Indexed p b → Logs p (now (comes .entry)) (now (place .entry)) (now (since .entry)) (b .span) →
+    requires { ⌜ Some-logs (laid (now index)) (now comes) (now place) (now since) × (length (now list) ≡ ENTRIES)
+        × (length (now ends) ≡ ROWENDS) ⌝ }
+    ensures { λ count. ⌜ ((p : Lines) → plan-refusal p ≡ nothing → Indexed p (laid (now (index .entry))) →
+        Logs p (now (comes .entry)) (now (place .entry)) (now (since .entry)) (laid (now (index .entry)) .span) →
         Entered p (now (list .exit)) (now (ends .exit)) count) ⌝ }
 {
-    let combinations = how_many(b.conditions);
-    all_entries(
-        comes,
-        place,
-        since,
-        &b.span,
-        combinations,
-        b.conditionrow,
-        b.conditions,
-        b.rows,
-        list,
-        ends,
-    )
+    let combinations = how_many(conditions_of(index));
+    all_entries(index, comes, place, since, combinations, list, ends)
 }
 
 // Stores the counts of the nodes, node 0's first, as the first numbers of `passed`.
@@ -103,39 +96,33 @@ fn store_counts(t: Totals, slots: usize, passed: &mut [u32; NODES])
 // Lists the entries and the frames of the table, and writes both, and the counts of the nodes, where the lent words
 // suffice. The lists are of ones, which are stored by fewer instructions than zeros are (docs/PERFORMANCE.md); none is
 // read before it is stored.
-fn write_all<'a>(
-    b: PlanIndex,
+fn write_all(
+    index: &Index,
     t: Totals,
-    comes: &'a [u32; ENTRIES],
-    place: &'a [u32; ENTRIES],
-    since: &'a [u32; COMBINATIONS],
+    comes: &[u32; ENTRIES],
+    place: &[u32; ENTRIES],
+    since: &[u32; COMBINATIONS],
     table: &mut [u32],
     frames: &mut [u32],
     passed: &mut [u32; NODES],
 ) -> Planned
-    requires { ⌜ Some-plans b t (now comes) (now place) (now since) ⌝ }
-    ensures { λ r. ⌜ ((p : Lines) → plan-refusal p ≡ nothing → Indexed p b → Planned-all p (b .span) t
-        (now (comes .entry)) (now (place .entry)) (now (since .entry)) → Answers p r (now (table .entry))
-        (now (frames .entry)) (now (passed .entry)) (now (table .exit)) (now (frames .exit)) (now (passed .exit))) ⌝ }
+    requires { ⌜ Some-plans (laid (now index)) t (now comes) (now place) (now since) ⌝ }
+    ensures { λ r. ⌜ ((p : Lines) → plan-refusal p ≡ nothing → Indexed p (laid (now (index .entry))) →
+        Planned-all p (laid (now (index .entry)) .span) t (now (comes .entry)) (now (place .entry))
+        (now (since .entry)) → Answers p r (now (table .entry)) (now (frames .entry)) (now (passed .entry))
+        (now (table .exit)) (now (frames .exit)) (now (passed .exit))) ⌝ }
 {
+    let rows = rows_of(index);
     let mut list = [1u64; ENTRIES];
     let mut ends = no_places();
-    let count = list_entries(b, comes, place, since, &mut list, &mut ends);
+    let count = list_entries(index, comes, place, since, &mut list, &mut ends);
     if table.len() < 5 * count {
         return Planned::Refused(10);
     }
     let mut out = [1u64; ENTRIES];
-    let used = collect(
-        &list,
-        &ends,
-        b.processes,
-        b.rows,
-        &b.sender,
-        &b.size,
-        &mut out,
-    );
-    if write_both(&list, &ends, b.rows, &out, used, table, frames) {
-        store_counts(t, b.slots, passed);
+    let used = collect(index, &list, &ends, &mut out);
+    if write_both(&list, &ends, rows, &out, used, table, frames) {
+        store_counts(t, slots_of(index), passed);
         return Planned::Made(Made {
             words: 5 * count,
             framewords: 3 * used,
@@ -158,12 +145,12 @@ pub fn plan_accepted(
     ensures { λ r. ⌜ Answers (lines p) r (now (table .entry)) (now (frames .entry)) (now (passed .entry))
         (now (table .exit)) (now (frames .exit)) (now (passed .exit)) ⌝ }
 {
-    let b = of_plan(p);
+    let index = of_plan(p);
     let mut comes = [1u32; ENTRIES];
     let mut place = [1u32; ENTRIES];
     let mut since = no_clocks();
-    let t = plan_combinations(b, &mut comes, &mut place, &mut since);
-    write_all(b, t, &comes, &place, &since, table, frames, passed)
+    let t = plan_combinations(&index, &mut comes, &mut place, &mut since);
+    write_all(&index, t, &comes, &place, &since, table, frames, passed)
 }
 
 // The pass-over count of each node of a plan in which refusals 2 to 9 find nothing, in node order at the front of what
@@ -172,10 +159,10 @@ pub fn count_pass_overs(p: Plan, passed: &mut [u32; NODES])
     requires { ⌜ plan-refusal (lines p) ≡ nothing ⌝ }
     ensures { λ _. ⌜ now (passed .exit) ≡ front (result (lines p) .passed) (now (passed .entry)) ⌝ }
 {
-    let b = of_plan(p);
+    let index = of_plan(p);
     let mut comes = [1u32; ENTRIES];
     let mut place = [1u32; ENTRIES];
     let mut since = no_clocks();
-    let t = plan_combinations(b, &mut comes, &mut place, &mut since);
-    store_counts(t, b.slots, passed);
+    let t = plan_combinations(&index, &mut comes, &mut place, &mut since);
+    store_counts(t, slots_of(&index), passed);
 }

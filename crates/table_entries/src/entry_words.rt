@@ -37,7 +37,7 @@ fn write_row(list: &[u64; ENTRIES], a: usize, b: usize, row: u32, words: &mut [u
 }
 
 // Writes the entries of all rows as words to the front of `words`, five to an entry.
-pub fn write<'a>(list: &'a [u64; ENTRIES], ends: &'a [u32; ROWENDS], rows: usize, words: &mut [u32])
+pub fn write(list: &[u64; ENTRIES], ends: &[u32; ROWENDS], rows: usize, words: &mut [u32])
     requires { ⌜ (rows ≤ ROWS) × Laid (now list) (now ends) rows × (5 * getD (now ends) rows 0 ≤ length (now words)) ⌝ }
     ensures { λ r. ⌜ now (words .exit) ≡ front (table (now (list .entry)) (now (ends .entry)) rows) (now (words .entry))
         ⌝ }

@@ -11,6 +11,7 @@ use lib.Seq.{slice}
 use Rattle.limits.specs.Limits.{ROWS, ENTRIES}
 use Rattle.lists.specs.Lists.{keep, each, upfrom}
 use Rattle.lists.specs.Ordered.{put-all}
+use Rattle.plan_index.specs.declared.PlanIndex.{PlanIndex}
 use Rattle.table_entries.specs.Among.{multiple}
 use Rattle.model.specs.Plan.{Lines}
 use Rattle.model.specs.Bus.{is-process, row-node, row-bytes, rows}
@@ -53,6 +54,10 @@ module _ (list ends node bytes : List ℕ) where
   -- the frames of the entries of the rows from `processes` up to `rows`
   unfoldable pub packed-frames : ℕ → ℕ → List ℕ
   packed-frames processes rows = in-order (each row-frames (upfrom processes (rows - processes))) []
+
+-- the frames of the entries of the rows behind the processes of a plan laid out
+abbrev pub frames-of : PlanIndex → List ℕ → List ℕ → List ℕ
+frames-of b list ends = packed-frames list ends (b .sender) (b .size) (b .processes) (b .rows)
 
 -- frames as words, three each: tick, node, last used byte
 unfoldable pub packed-words : List ℕ → List ℕ

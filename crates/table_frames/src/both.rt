@@ -12,11 +12,11 @@ ghost use Rattle.table_frames.specs.Packed.{packed-words};
 
 // Writes the entries of all rows, for which the lent words suffice, and the first `used` frames, where the words lent
 // for them suffice too; if not, nothing.
-pub fn write_both<'a>(
-    list: &'a [u64; ENTRIES],
-    ends: &'a [u32; ROWENDS],
+pub fn write_both(
+    list: &[u64; ENTRIES],
+    ends: &[u32; ROWENDS],
     rows: usize,
-    out: &'a [u64; ENTRIES],
+    out: &[u64; ENTRIES],
     used: usize,
     table: &mut [u32],
     frames: &mut [u32],

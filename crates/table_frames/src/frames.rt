@@ -4,7 +4,11 @@ use arrays::greater_u64;
 use arrays::wide;
 use limits::ENTRIES;
 use limits::ROWENDS;
-use limits::ROWS;
+use plan_index::Index;
+use plan_index::processes_of;
+use plan_index::rows_of;
+use plan_index::sender_of;
+use plan_index::size_of;
 use table_entries::put;
 ghost use mathlib.Core.Path.{_≡_};
 ghost use mathlib.Core.List.{map};
@@ -14,8 +18,9 @@ ghost use lib.Seq.{slice};
 ghost use Rattle.limits.specs.Limits.{ENTRIES};
 ghost use Rattle.lists.specs.Front.{front};
 ghost use Rattle.lists.specs.Ordered.{Ascending};
+ghost use Rattle.plan_index.specs.Index.{laid, Bounded};
 ghost use Rattle.table_entries.specs.Among.{multiple, Added};
-ghost use Rattle.table_frames.specs.Packed.{entry-frame, Collected, Rows, packed-frames, packed-words};
+ghost use Rattle.table_frames.specs.Packed.{entry-frame, Collected, Rows, frames-of, packed-words};
 
 fn long(x: u32) -> u64
     ensures { λ r. ⌜ r ≡ x ⌝ }
@@ -81,28 +86,28 @@ fn collect_row(
     add(y, out, m)
 }
 
-// The frames of the entries of rows `processes` up to `rows`, by ascending ticks, at the front of `out`; how many there
+// The frames of the entries of the rows behind the processes, by ascending ticks, at the front of `out`; how many there
 // are.
-pub fn collect<'a>(
-    list: &'a [u64; ENTRIES],
-    ends: &'a [u32; ROWENDS],
-    processes: usize,
-    rows: usize,
-    node: &'a [u32; ROWS],
-    bytes: &'a [u32; ROWS],
+pub fn collect(
+    index: &Index,
+    list: &[u64; ENTRIES],
+    ends: &[u32; ROWENDS],
     out: &mut [u64; ENTRIES],
 ) -> usize
-    requires { ⌜ Rows (now list) (now ends) processes rows × (length (now out) ≡ ENTRIES) ⌝ }
-    ensures { λ r. ⌜ (take r (now (out .exit)) ≡ packed-frames (now (list .entry)) (now (ends .entry))
-        (now (node .entry)) (now (bytes .entry)) processes rows) × (r ≤ getD (now (ends .entry)) rows 0)
+    requires { ⌜ Bounded (laid (now index)) × (length (now out) ≡ ENTRIES)
+        × Rows (now list) (now ends) (laid (now index) .processes) (laid (now index) .rows) ⌝ }
+    ensures { λ r. ⌜ (take r (now (out .exit)) ≡ frames-of (laid (now (index .entry))) (now (list .entry))
+        (now (ends .entry))) × (r ≤ getD (now (ends .entry)) (laid (now (index .entry)) .rows) 0)
         × (length (now (out .exit)) ≡ ENTRIES) ⌝ }
 {
+    let rows = rows_of(index);
     let mut n: usize = 0;
-    let mut q = processes;
+    let mut q = processes_of(index);
     while q < rows {
         let from = wide(ends[q]);
         let to = wide(ends[q + 1]);
-        n = collect_row(list, from, to, node[q], bytes[q], out, n);
+        let node = sender_of(index, q) as u32;
+        n = collect_row(list, from, to, node, size_of(index, q), out, n);
         q += 1;
     }
     n

@@ -1,37 +1,43 @@
 -- `planner_table::list_entries` meets its contract: the entries listed from the logs are those of the table.
 -- Assumes nothing.
-use native.Mathlib.Omega.{arith}
+use mathlib.Core.Path.{_≡_, ap, _∙_}
+use Prim.Native.Nat.{ℕ, _^_}
+use Rattle.plan_index.specs.Index.{laid}
+use Rattle.plan_layout.proofs.Bounds.{bounded}
 use Rattle.planner_table.proofs.Entering.{all-readable, entered}
 use borrow.Author.Needs.{needs}
 use Rattle.planner_table.proofs.list_entries.Statement.{statement}
 use Rattle.planner_table.proofs.list_entries.Tie as tie
 
+conditions-of-requires : tie.Need-conditions-of-requires
+conditions-of-requires c κs = let d = c .pre .0 in bounded (d .plan) _ (d .indexed)
+
 how-many-requires : tie.Need-how-many-requires
 how-many-requires c κs = search needs
 
+-- how many combinations there are
+count : (n : tie.After-how-many) → n .how-many .result ≡ 2 ^ laid (n .before .before .args .index .now) .conditions
+count n = n .how-many .ensures .0 ∙ ap (λ (k : ℕ). 2 ^ k) (n .before .conditions-of .ensures .0)
+
 all-entries-requires : tie.Need-all-entries-requires
 all-entries-requires c κs =
-    let s = c .before .before .before .before .before in
-    let o = s .pre .0 .indexed in
-    let n = c .before .before .before .before .how-many in (
-      (
-        omega (arith, o .first-condition-row, o .few-processes, o .few-edges, o .few-conditions),
-        o .few-conditions,
-        n .ensures .1,
-        omega (arith, o .row-count, o .processes-count, o .edges-count, o .conditions-count, o .few-processes, o .few-edges, o .few-conditions),
-      ),
-      (
-        all-readable (s .args .t1) (s .args .comes .now) (s .args .place .now) (s .args .since .now) (s .pre .0) (n .result) (n .ensures .0),
-        (s .pre .1 .0, s .pre .1 .1),
-      ),
+    let n = c .before .before in
+    let s = n .before .before in
+    let a = s .args in
+    let d = s .pre .0 in (
+      bounded (d .plan) _ (d .indexed),
+      n .how-many .ensures .1,
+      s .pre .1,
+      s .pre .2,
+      all-readable (laid (a .index .now)) (a .comes .now) (a .place .now) (a .since .now) d (n .how-many .result) (count n),
     )
 
 returns : tie.Need-returns
 returns c =
-    let s = c .before .before .before .before .before .before in
-    let n = c .before .before .before .before .before .how-many in
-    entered (s .args .t1) (s .args .comes .now) (s .args .place .now) (s .args .since .now) (n .result) (n .ensures .0) _ _ _ (c .all-entries .ensures)
+    let n = c .before .before .before in
+    let a = n .before .before .args in
+    entered (laid (a .index .now)) (a .comes .now) (a .place .now) (a .since .now) (n .how-many .result) (count n) _ _ _ (c .all-entries .ensures)
 
 pub list-entries-spec : {M : Type 1} → statement M
 list-entries-spec =
-    tie.close (tie.spec how-many-requires all-entries-requires returns)
+    tie.close (tie.spec conditions-of-requires how-many-requires all-entries-requires returns)

@@ -6,8 +6,9 @@ use Prim.Native.Nat.{ℕ}
 use lib.ListN.{length, length-replicate}
 use Rattle.plan.specs.Memory.{lines}
 use borrow.Author.Needs.{needs}
-use Rattle.plan_index.specs.Indexed.{Indexed}
-use Rattle.plan_index.proofs.IndexOfLines.{indexed-lines}
+use Rattle.plan_index.specs.Index.{laid}
+use Rattle.plan_layout.specs.Indexed.{Indexed}
+use Rattle.plan_layout.proofs.IndexOfLines.{indexed-lines}
 use Rattle.planner_table.proofs.plan_accepted.Statement.{statement}
 use Rattle.planner_table.proofs.plan_accepted.Tie as tie
 
@@ -15,7 +16,7 @@ of-plan-requires : tie.Need-of-plan-requires
 of-plan-requires c κs = search needs
 
 -- what the plan index says of the plan
-indexed : (c : tie.After-of-plan) → Indexed (lines (c .before .before .before .args .p)) (c .of-plan .result)
+indexed : (c : tie.After-of-plan) → Indexed (lines (c .before .before .before .args .p)) (laid (c .of-plan .result))
 indexed c = let s = c .before .before .before in indexed-lines (s .args .p) (s .pre) (c .of-plan .ensures)
 
 no-clocks-requires : tie.Need-no-clocks-requires
@@ -23,22 +24,22 @@ no-clocks-requires c κs = search needs
 
 plan-combinations-requires : tie.Need-plan-combinations-requires
 plan-combinations-requires c κs =
-    let s = c .before .before .before .before .before .before .before in (
-      record { plan = lines (s .args .p); passes = s .pre; indexed = indexed (c .before .before .before .before) },
-      (
-        length-replicate {A = ℕ} 12672 1,
-        length-replicate {A = ℕ} 12672 1,
-        ap length (c .before .before .before .no-clocks .ensures) ∙ length-replicate {A = ℕ} 64 0,
-      ),
+    let k = c .before .before .before .before in
+    let i = k .before in
+    let s = i .before .before .before in (
+      record { plan = lines (s .args .p); passes = s .pre; indexed = indexed i },
+      length-replicate {A = ℕ} 12672 1,
+      length-replicate {A = ℕ} 12672 1,
+      ap length (k .no-clocks .ensures) ∙ length-replicate {A = ℕ} 64 0,
     )
 
 -- where all combinations are planned, the plan index was made
 abbrev index-made : tie.After-plan-combinations → tie.After-of-plan
-index-made c = c .before .before .before .before .before
+index-made c = c .before .before .before .before .before .before
 
 write-all-requires : tie.Need-write-all-requires
 write-all-requires c κs =
-    let all = c .before .before .before .before .before .before in
+    let all = c .before .before .before .before .before .before .before in
     let s = index-made all .before .before .before in
     let p = lines (s .args .p) in
     let o = indexed (index-made all) in
@@ -53,7 +54,7 @@ same-length-2 c = search needs
 returns : tie.Need-returns
 returns c =
     let written = c .before .before .before .before in
-    let all = written .before .before .before .before .before .before .before in
+    let all = written .before .before .before .before .before .before .before .before in
     let s = index-made all .before .before .before in
     let p = lines (s .args .p) in
     let o = indexed (index-made all) in

@@ -8,17 +8,17 @@ use lib.ListN.{length}
 use borrow.Author.Needs.{needs}
 use Rattle.model.specs.Firmware.{words-of}
 use Rattle.model.specs.Table.{Entry}
-use Rattle.checker_rules.specs.EntryForm.{ill-formed-by}
+use Rattle.plan_index.specs.Index.{laid}
+use Rattle.checker_rules.specs.EntryForm.{is-ill-formed}
 use Rattle.checker_rules.proofs.EntryCases.{Rest, rest-next, rest-found, rest-none}
 use Rattle.c_check.proofs.many_entries.some_ill_formed.Statement.{statement}
 use Rattle.c_check.proofs.many_entries.some_ill_formed.Tie as tie
 
 abbrev Inv-loop : tie.InvT-loop
-Inv-loop bytes n processes conditionrow rows combinations remote at₀ at =
-    (at % 5 ≡ 0) × (at ≤ n) × Rest (ill-formed-by processes conditionrow rows combinations remote) (words-of bytes) at
+Inv-loop bytes n index combinations at₀ at = (at % 5 ≡ 0) × (at ≤ n) × Rest (is-ill-formed (laid index) combinations) (words-of bytes) at
 
 abbrev μ-loop : tie.MeasureT-loop
-μ-loop bytes n processes conditionrow rows combinations remote at₀ at = n - at
+μ-loop bytes n index combinations at₀ at = n - at
 
 loop-holds : tie.Need-loop-holds Inv-loop μ-loop
 loop-holds c = (omega arith, omega arith, refl)
@@ -27,14 +27,14 @@ ill-formed-at-requires : tie.Need-ill-formed-at-requires Inv-loop μ-loop
 ill-formed-at-requires c κs =
     let l = c .before in
     let s = l .before .before in
-    (omega (arith, l .loop .inv .0, l .loop .inv .1, s .pre .0, s .pre .1), s .pre .2)
+    (omega (arith, l .loop .inv .0, l .loop .inv .1, s .pre .0, s .pre .1), s .pre .2, s .pre .3)
 
 returns : tie.Need-returns Inv-loop μ-loop
 returns c =
     let l = c .before .before .before in
     let s = l .before .before in
     let a = s .args in
-    let f : Entry → Bool = ill-formed-by (a .processes) (a .conditionrow) (a .rows) (a .combinations) (a .remote .now) in
+    let f : Entry → Bool = is-ill-formed (laid (a .index .now)) (a .combinations) in
     rest-found f (words-of (a .bytes .now)) (l .loop .at) (omega (arith, l .loop .inv .0, l .loop .inv .1, s .pre .0, s .pre .1)) (sym (c .before .ill-formed-at .ensures) ∙ c .if1 .taken) (l .loop .inv .2)
 
 add-at : tie.Need-add-at Inv-loop μ-loop
@@ -52,7 +52,7 @@ loop-again c =
     let l = c .before .before .before in
     let s = l .before .before in
     let a = s .args in
-    let f : Entry → Bool = ill-formed-by (a .processes) (a .conditionrow) (a .rows) (a .combinations) (a .remote .now) in
+    let f : Entry → Bool = is-ill-formed (laid (a .index .now)) (a .combinations) in
     let room : l .loop .at + 5 ≤ length (words-of (a .bytes .now)) = omega (arith, l .loop .inv .0, l .loop .inv .1, s .pre .0, s .pre .1) in
     (omega (arith, l .loop .inv .0), omega (arith, room, s .pre .0), rest-next f (words-of (a .bytes .now)) (l .loop .at) room (sym (c .before .ill-formed-at .ensures) ∙ c .if1 .left) (l .loop .inv .2))
 
@@ -61,7 +61,7 @@ returns-2 c =
     let l = c .before in
     let s = l .before .before in
     let a = s .args in
-    let f : Entry → Bool = ill-formed-by (a .processes) (a .conditionrow) (a .rows) (a .combinations) (a .remote .now) in
+    let f : Entry → Bool = is-ill-formed (laid (a .index .now)) (a .combinations) in
     rest-none f (words-of (a .bytes .now)) (l .loop .at) (omega (arith, c .loop-test .left, s .pre .0)) (l .loop .inv .2)
 
 pub some-ill-formed-spec : {M : Type 1} → statement M

@@ -1,37 +1,21 @@
 -- `checker_frames::passes` meets its contract.
 -- Assumes nothing.
-use mathlib.Core.Path.{refl}
 use Rattle.checker_frames.specs.SharedBytes.{passes-by}
 use borrow.Author.Needs.{needs}
 use Rattle.checker_frames.proofs.shared_bytes.passes.Statement.{statement}
 use Rattle.checker_frames.proofs.shared_bytes.passes.Tie as tie
 
-mul-n : tie.Need-mul-n
-mul-n c = search needs
+sender-of-requires : tie.Need-sender-of-requires
+sender-of-requires c κs = search needs
 
-element-copy-out-n : tie.Need-element-copy-out-n
-element-copy-out-n c = search needs
+place-of-requires : tie.Need-place-of-requires
+place-of-requires c κs = search needs
 
-cast-n : tie.Need-cast-n
-cast-n c = search needs
+size-of-requires : tie.Need-size-of-requires
+size-of-requires c κs = search needs
 
-mul-result : tie.Need-mul-result
-mul-result c = search needs
-
-element-copy-out-result : tie.Need-element-copy-out-result
-element-copy-out-result c = search needs
-
-mul-result-2 : tie.Need-mul-result-2
-mul-result-2 c = search needs
-
-element-copy-out-result-2 : tie.Need-element-copy-out-result-2
-element-copy-out-result-2 c = search needs
-
-mul-result-3 : tie.Need-mul-result-3
-mul-result-3 c = search needs
-
-element-copy-out-result-3 : tie.Need-element-copy-out-result-3
-element-copy-out-result-3 c = search needs
+rooms-of-requires : tie.Need-rooms-of-requires
+rooms-of-requires c κs = search needs
 
 add-result : tie.Need-add-result
 add-result c = search needs
@@ -39,20 +23,17 @@ add-result c = search needs
 returns : tie.Need-returns
 unfolding passes-by
 returns c =
-    refl
+    let s = c .before in
+    let p = s .before in
+    simp (← p .before .sender-of .ensures .0, ← c .rooms-of .ensures, ← p .place-of .ensures, ← s .size-of .ensures .0)
 
 pub passes-spec : {M : Type 1} → statement M
 passes-spec =
     tie.close
     (tie.spec
-    mul-n
-    element-copy-out-n
-    cast-n
-    mul-result
-    element-copy-out-result
-    mul-result-2
-    element-copy-out-result-2
-    mul-result-3
-    element-copy-out-result-3
+    sender-of-requires
+    place-of-requires
+    size-of-requires
+    rooms-of-requires
     add-result
     returns)

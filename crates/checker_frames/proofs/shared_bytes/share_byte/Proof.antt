@@ -1,35 +1,49 @@
 -- `checker_frames::share_byte` meets its contract: the rows from i on give the whole answer.
 -- Assumes nothing.
-use mathlib.Core.Path.{_≡_, refl, sym, _∙_}
+use mathlib.Core.Path.{_≡_, sym, _∙_}
 use mathlib.Core.Bool.{Bool}
 use Prim.Native.Nat.{ℕ, _-_}
-use Rattle.checker_rows.specs.MetArrays.{some}
-use Rattle.checker_frames.specs.SharedBytes.{shares-by, share-by}
-use Rattle.checker_rows.proofs.RangeLoops.{some-next, some-found, some-none}
-use Rattle.checker_frames.proofs.shared_bytes.share_byte.Statement.{statement}
+use native.Mathlib.Omega.{arith}
 use borrow.Author.Needs.{needs}
+use Rattle.plan_index.specs.Index.{laid}
+use Rattle.log_rows.specs.Rows.{rows-of}
+use Rattle.checker_rows.specs.MetArrays.{some}
+use Rattle.checker_rows.proofs.RangeLoops.{some-next, some-found, some-none}
+use Rattle.checker_frames.specs.SharedBytes.{share-by, row-shares, some-share}
+use Rattle.checker_frames.proofs.shared_bytes.share_byte.Statement.{statement}
 use Rattle.checker_frames.proofs.shared_bytes.share_byte.Tie as tie
 
 abbrev Inv-loop : tie.InvT-loop
-Inv-loop processes rows rooms sender size place comes span i₀ i = some (shares-by processes rooms sender size place comes span) processes rows ≡ some (shares-by processes rooms sender size place comes span) i rows
+Inv-loop index rows end i₀ i = some-share (laid index) (rows-of rows) ≡ some (row-shares (laid index) (rows-of rows)) i end
 
 abbrev μ-loop : tie.MeasureT-loop
-μ-loop processes rows rooms sender size place comes span i₀ i = rows - i
+μ-loop index rows end i₀ i = end - i
+
+rows-of-requires : tie.Need-rows-of-requires Inv-loop μ-loop
+rows-of-requires c κs = search needs
+
+processes-of-requires : tie.Need-processes-of-requires Inv-loop μ-loop
+processes-of-requires c κs = search needs
 
 loop-holds : tie.Need-loop-holds Inv-loop μ-loop
+unfolding share-by
 loop-holds c =
-    refl
+    let a = c .before .before .args in
+    λ k. some (row-shares (laid (a .index .now)) (rows-of (a .rows .now))) (sym (c .processes-of .ensures .0) k) (sym (c .before .rows-of .ensures .0) k)
 
 shares-requires : tie.Need-shares-requires Inv-loop μ-loop
-shares-requires c κs = search needs
+shares-requires c κs =
+    let n = c .before .before .before in
+    let l = c .loop-test .taken in
+    (omega (arith, l, n .rows-of .ensures .1), n .before .pre)
 
 returns : tie.Need-returns Inv-loop μ-loop
-unfolding share-by
 returns c =
     let l = c .before .before .before in
-    let a = l .before .args in
-    let f : ℕ → Bool = shares-by (a .processes) (a .rooms .now) (a .sender .now) (a .size .now) (a .place .now) (a .comes .now) (a .span .now) in
-    sym (l .loop .inv ∙ some-found f (a .rows) (l .loop .i) (c .before .before .loop-test .taken) (sym (c .before .shares .ensures) ∙ c .if1 .taken))
+    let n = l .before .before in
+    let a = n .before .args in
+    let f : ℕ → Bool = row-shares (laid (a .index .now)) (rows-of (a .rows .now)) in
+    sym (l .loop .inv ∙ some-found f (n .rows-of .result) (l .loop .i) (c .before .before .loop-test .taken) (sym (c .before .shares .ensures) ∙ c .if1 .taken))
 
 add-i : tie.Need-add-i Inv-loop μ-loop
 add-i c = search needs
@@ -40,17 +54,18 @@ loop-less c = search needs
 loop-again : tie.Need-loop-again Inv-loop μ-loop
 loop-again c =
     let l = c .before .before .before in
-    let a = l .before .args in
-    let f : ℕ → Bool = shares-by (a .processes) (a .rooms .now) (a .sender .now) (a .size .now) (a .place .now) (a .comes .now) (a .span .now) in
-    l .loop .inv ∙ some-next f (a .rows) (l .loop .i) (c .before .before .loop-test .taken) (sym (c .before .shares .ensures) ∙ c .if1 .left)
+    let n = l .before .before in
+    let a = n .before .args in
+    let f : ℕ → Bool = row-shares (laid (a .index .now)) (rows-of (a .rows .now)) in
+    l .loop .inv ∙ some-next f (n .rows-of .result) (l .loop .i) (c .before .before .loop-test .taken) (sym (c .before .shares .ensures) ∙ c .if1 .left)
 
 returns-2 : tie.Need-returns-2 Inv-loop μ-loop
-unfolding share-by
 returns-2 c =
     let l = c .before in
-    let a = l .before .args in
-    let f : ℕ → Bool = shares-by (a .processes) (a .rooms .now) (a .sender .now) (a .size .now) (a .place .now) (a .comes .now) (a .span .now) in
-    sym (l .loop .inv ∙ some-none f (a .rows) (l .loop .i) (c .loop-test .left))
+    let n = l .before .before in
+    let a = n .before .args in
+    let f : ℕ → Bool = row-shares (laid (a .index .now)) (rows-of (a .rows .now)) in
+    sym (l .loop .inv ∙ some-none f (n .rows-of .result) (l .loop .i) (c .loop-test .left))
 
 pub share-byte-spec : {M : Type 1} → statement M
 share-byte-spec =
@@ -58,6 +73,8 @@ share-byte-spec =
     (tie.spec
     Inv-loop
     μ-loop
+    rows-of-requires
+    processes-of-requires
     loop-holds
     shares-requires
     returns

@@ -6,39 +6,44 @@ use borrow.Author.Needs.{needs}
 use Rattle.checker_inputs.proofs.early_starts.sends.Statement.{statement}
 use Rattle.checker_inputs.proofs.early_starts.sends.Tie as tie
 
-sub-result : tie.Need-sub-result
-sub-result c = search needs
+conditionrow-of-requires : tie.Need-conditionrow-of-requires
+conditionrow-of-requires c κs = search needs
 
-mul-result : tie.Need-mul-result
-mul-result c = search needs
+processes-of-requires : tie.Need-processes-of-requires
+processes-of-requires c κs = search needs
 
-element-copy-out-result : tie.Need-element-copy-out-result
-element-copy-out-result c = search needs
+sub-from-of : tie.Need-sub-from-of
+sub-from-of c = search needs
+
+from-of-requires : tie.Need-from-of-requires
+from-of-requires c κs = search needs
 
 returns : tie.Need-returns
 unfolding sends-by
 returns c =
-    simp (lt-ltb _ _ (c .before .if1 .taken))
+    let n = c .before in
+    let t = n .before in
+    let k = t .before in
+    (simp (← k .conditionrow-of .ensures .0, lt-ltb _ _ (t .if1 .taken), ← n .processes-of .ensures .0) (c .from-of .ensures .0), c .from-of .ensures .1)
 
-mul-result-2 : tie.Need-mul-result-2
-mul-result-2 c = search needs
-
-element-copy-out-result-2 : tie.Need-element-copy-out-result-2
-element-copy-out-result-2 c = search needs
+decider-of-requires : tie.Need-decider-of-requires
+decider-of-requires c κs = search needs
 
 returns-2 : tie.Need-returns-2
 unfolding sends-by
 returns-2 c =
-    simp (le-ltb _ _ (c .before .if1 .left))
+    let e = c .before in
+    let k = e .before in
+    (simp (← k .conditionrow-of .ensures .0, le-ltb _ _ (e .if1 .left)) (c .decider-of .ensures .0), c .decider-of .ensures .1)
 
 pub sends-spec : {M : Type 1} → statement M
 sends-spec =
     tie.close
     (tie.spec
-    sub-result
-    mul-result
-    element-copy-out-result
+    conditionrow-of-requires
+    processes-of-requires
+    sub-from-of
+    from-of-requires
     returns
-    mul-result-2
-    element-copy-out-result-2
+    decider-of-requires
     returns-2)

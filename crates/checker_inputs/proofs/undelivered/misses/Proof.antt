@@ -6,36 +6,28 @@ use borrow.Author.Needs.{needs}
 use Rattle.checker_inputs.proofs.undelivered.misses.Statement.{statement}
 use Rattle.checker_inputs.proofs.undelivered.misses.Tie as tie
 
-mul-if1 : tie.Need-mul-if1
-mul-if1 c = search needs
+from-of-requires : tie.Need-from-of-requires
+from-of-requires c κs = search needs
 
-element-copy-out-if1 : tie.Need-element-copy-out-if1
-element-copy-out-if1 c = search needs
-
-cast-if1 : tie.Need-cast-if1
-cast-if1 c = search needs
-
-mul-if1-2 : tie.Need-mul-if1-2
-mul-if1-2 c = search needs
-
-element-copy-out-if1-2 : tie.Need-element-copy-out-if1-2
-element-copy-out-if1-2 c = search needs
+run-of-requires : tie.Need-run-of-requires
+run-of-requires c κs = search needs
 
 returns : tie.Need-returns
 unfolding misses-by
 returns c =
-    simp (eq-eqb _ _ (c .if1 .taken))
+    let r = c .before in
+    simp (← r .before .from-of .ensures .0, ← r .run-of .ensures, eq-eqb _ _ (c .if1 .taken))
 
-mul-if2 : tie.Need-mul-if2
-mul-if2 c = search needs
-
-element-copy-out-if2 : tie.Need-element-copy-out-if2
-element-copy-out-if2 c = search needs
+unmet-of-requires : tie.Need-unmet-of-requires
+unmet-of-requires c κs = search needs
 
 returns-2 : tie.Need-returns-2
 unfolding misses-by
 returns-2 c =
-    simp (ne-eqb _ _ (c .before .before .if1 .left), ne-eqb _ _ (c .if2 .taken))
+    let n = c .before in
+    let e = n .before in
+    let r = e .before in
+    simp (← r .before .from-of .ensures .0, ← r .run-of .ensures, ne-eqb _ _ (e .if1 .left), ← n .unmet-of .ensures, ne-eqb _ _ (c .if2 .taken))
 
 delivered-requires : tie.Need-delivered-requires
 delivered-requires c κs = search needs
@@ -44,20 +36,19 @@ returns-3 : tie.Need-returns-3
 unfolding misses-by
 returns-3 c =
     let d = c .before in
-    simp (ne-eqb _ _ (d .before .before .if1 .left), eq-eqb _ _ (d .if2 .left), c .delivered .ensures)
+    let n = d .before in
+    let e = n .before in
+    let r = e .before in
+    simp (← r .before .from-of .ensures .0, ← r .run-of .ensures, ne-eqb _ _ (e .if1 .left), ← n .unmet-of .ensures, eq-eqb _ _ (d .if2 .left), c .delivered .ensures)
 
 pub misses-spec : {M : Type 1} → statement M
 misses-spec =
     tie.close
     (tie.spec
-    mul-if1
-    element-copy-out-if1
-    cast-if1
-    mul-if1-2
-    element-copy-out-if1-2
+    from-of-requires
+    run-of-requires
     returns
-    mul-if2
-    element-copy-out-if2
+    unmet-of-requires
     returns-2
     delivered-requires
     returns-3)

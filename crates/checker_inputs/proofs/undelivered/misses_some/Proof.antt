@@ -3,50 +3,38 @@
 use mathlib.Core.Path.{_≡_, refl, sym, ap, _∙_}
 use mathlib.Core.Bool.{Bool}
 use Prim.Native.Nat.{ℕ, _-_}
-use native.Mathlib.Omega.{arith}
-use lib.ListN.{getD}
-use Rattle.lists.specs.Lists.{any}
-use Rattle.log_queries.specs.Reading.{part}
-use Rattle.log_queries.proofs.ArrayParts.{part-end, any-pass, any-fail}
-use Rattle.checker_inputs.specs.Inputs.{misses-by}
-use Rattle.checker_inputs.proofs.undelivered.misses_some.Statement.{statement}
 use borrow.Author.Needs.{needs}
+use Rattle.lists.specs.Lists.{any}
+use Rattle.plan_index.specs.Index.{laid}
+use Rattle.log_rows.specs.Rows.{rows-of}
+use Rattle.log_queries.specs.Queries.{edges-at}
+use Rattle.log_queries.proofs.ArrayParts.{part-end, any-pass, any-fail}
+use Rattle.checker_inputs.specs.Inputs.{edge-misses}
+use Rattle.checker_inputs.proofs.undelivered.misses_some.Statement.{statement}
 use Rattle.checker_inputs.proofs.undelivered.misses_some.Tie as tie
 
 abbrev Inv-loop : tie.InvT-loop
-Inv-loop processes remote from knownby unmet comes active into a b u j₀ j = any (misses-by processes remote from knownby unmet comes active u) (part into a b) ≡ any (misses-by processes remote from knownby unmet comes active u) (part into j b)
+Inv-loop index rows a b u j₀ j = any (edge-misses (laid index) (rows-of rows) u) (edges-at (laid index) a b) ≡ any (edge-misses (laid index) (rows-of rows) u) (edges-at (laid index) j b)
 
 abbrev μ-loop : tie.MeasureT-loop
-μ-loop processes remote from knownby unmet comes active into a b u j₀ j = b - j
+μ-loop index rows a b u j₀ j = b - j
 
 loop-holds : tie.Need-loop-holds Inv-loop μ-loop
-loop-holds c =
-    refl
+loop-holds c = refl
 
-mul-e : tie.Need-mul-e Inv-loop μ-loop
-mul-e c = search needs
-
-element-copy-out-e : tie.Need-element-copy-out-e Inv-loop μ-loop
-element-copy-out-e c = search needs
-
-cast-e : tie.Need-cast-e Inv-loop μ-loop
-cast-e c =
-    let l = c .before .before in
-    omega (arith, l .before .pre .2 .edges (l .loop .j))
+into-of-requires : tie.Need-into-of-requires Inv-loop μ-loop
+into-of-requires c κs = search needs
 
 misses-requires : tie.Need-misses-requires Inv-loop μ-loop
-misses-requires c κs =
-    let l = c .before .before in
-    let s = l .before .pre in
-    let e = getD (l .before .args .into .now) (l .loop .j) 0 in
-    (s .2 .edges (l .loop .j), s .1, s .2 .senders e, s .2 .known-rows e)
+misses-requires c κs = search needs
 
 returns : tie.Need-returns Inv-loop μ-loop
 returns c =
-    let l = c .before .before .before .before in
+    let n = c .before .before in
+    let l = n .before .before in
     let a = l .before .args in
-    let f : ℕ → Bool = misses-by (a .processes) (a .remote .now) (a .from .now) (a .knownby .now) (a .unmet .now) (a .comes .now) (a .active .now) (a .u) in
-    sym (l .loop .inv ∙ any-pass (a .into .now) (l .loop .j) (a .b) (c .before .before .before .loop-test .taken) f (sym (c .before .misses .ensures) ∙ c .if1 .taken))
+    let f : ℕ → Bool = edge-misses (laid (a .index .now)) (rows-of (a .rows .now)) (a .u) in
+    sym (l .loop .inv ∙ any-pass (laid (a .index .now) .into) (l .loop .j) (a .b) (n .before .loop-test .taken) f (ap f (sym (n .into-of .ensures .0)) ∙ sym (c .before .misses .ensures) ∙ c .if1 .taken))
 
 add-j : tie.Need-add-j Inv-loop μ-loop
 add-j c = search needs
@@ -56,16 +44,17 @@ loop-less c = search needs
 
 loop-again : tie.Need-loop-again Inv-loop μ-loop
 loop-again c =
-    let l = c .before .before .before .before in
+    let n = c .before .before in
+    let l = n .before .before in
     let a = l .before .args in
-    let f : ℕ → Bool = misses-by (a .processes) (a .remote .now) (a .from .now) (a .knownby .now) (a .unmet .now) (a .comes .now) (a .active .now) (a .u) in
-    l .loop .inv ∙ any-fail (a .into .now) (l .loop .j) (a .b) (c .before .before .before .loop-test .taken) f (sym (c .before .misses .ensures) ∙ c .if1 .left)
+    let f : ℕ → Bool = edge-misses (laid (a .index .now)) (rows-of (a .rows .now)) (a .u) in
+    l .loop .inv ∙ any-fail (laid (a .index .now) .into) (l .loop .j) (a .b) (n .before .loop-test .taken) f (ap f (sym (n .into-of .ensures .0)) ∙ sym (c .before .misses .ensures) ∙ c .if1 .left)
 
 returns-2 : tie.Need-returns-2 Inv-loop μ-loop
 returns-2 c =
     let l = c .before in
     let a = l .before .args in
-    sym (l .loop .inv ∙ ap (any (misses-by (a .processes) (a .remote .now) (a .from .now) (a .knownby .now) (a .unmet .now) (a .comes .now) (a .active .now) (a .u))) (part-end (a .into .now) (l .loop .j) (a .b) (c .loop-test .left)))
+    sym (l .loop .inv ∙ ap (any (edge-misses (laid (a .index .now)) (rows-of (a .rows .now)) (a .u))) (part-end (laid (a .index .now) .into) (l .loop .j) (a .b) (c .loop-test .left)))
 
 pub misses-some-spec : {M : Type 1} → statement M
 misses-some-spec =
@@ -74,9 +63,7 @@ misses-some-spec =
     Inv-loop
     μ-loop
     loop-holds
-    mul-e
-    element-copy-out-e
-    cast-e
+    into-of-requires
     misses-requires
     returns
     add-j

@@ -1,9 +1,9 @@
--- `checker_listing::item_frame` meets its contract: the words of the entry, with what the arrays have at its row.
+-- `checker_listing::item_frame` meets its contract: the words of the entry, with what the plan index has at its row.
 -- Assumes nothing.
-use mathlib.Core.Path.{ap}
+use mathlib.Core.Path.{ap, _∙_}
 use Prim.Native.Nat.{ℕ, _+_}
-use native.Mathlib.Omega.{arith}
 use lib.ListN.{getD}
+use Rattle.plan_index.specs.Index.{laid}
 use borrow.Author.Needs.{needs}
 use Rattle.checker_listing.proofs.frames.item_frame.Statement.{statement}
 use Rattle.checker_listing.proofs.frames.item_frame.Tie as tie
@@ -17,46 +17,47 @@ shared-slice-read-wide c = search needs
 wide-requires : tie.Need-wide-requires
 wide-requires c κs = search needs
 
-add-t6 : tie.Need-add-t6
-add-t6 c = search needs
+add-t5 : tie.Need-add-t5
+add-t5 c = search needs
 
-mul-t9 : tie.Need-mul-t9
-mul-t9 c = search needs
+mul-t8 : tie.Need-mul-t8
+mul-t8 c = search needs
 
-shared-slice-read-t8 : tie.Need-shared-slice-read-t8
-shared-slice-read-t8 c = search needs
+shared-slice-read-t7 : tie.Need-shared-slice-read-t7
+shared-slice-read-t7 c = search needs
 
-mul-t11 : tie.Need-mul-t11
-mul-t11 c = search needs
+sender-of-requires : tie.Need-sender-of-requires
+sender-of-requires c κs = search needs
 
-element-copy-out-t14 : tie.Need-element-copy-out-t14
-element-copy-out-t14 c = search needs
+cast-t11 : tie.Need-cast-t11
+cast-t11 c = search needs
 
-add-t15 : tie.Need-add-t15
-add-t15 c = search needs
+add-t12 : tie.Need-add-t12
+add-t12 c = search needs
 
-mul-t16 : tie.Need-mul-t16
-mul-t16 c = search needs
+mul-t13 : tie.Need-mul-t13
+mul-t13 c = search needs
 
-shared-slice-read-t18 : tie.Need-shared-slice-read-t18
-shared-slice-read-t18 c = search needs
+shared-slice-read-t15 : tie.Need-shared-slice-read-t15
+shared-slice-read-t15 c = search needs
 
-mul-t19 : tie.Need-mul-t19
-mul-t19 c = search needs
+size-of-requires : tie.Need-size-of-requires
+size-of-requires c κs = search needs
 
-element-copy-out-t22 : tie.Need-element-copy-out-t22
-element-copy-out-t22 c = search needs
-
-add-t23 : tie.Need-add-t23
-add-t23 c =
-    let s = c .before .before .before .before .before .before .before in
-    omega (arith, s .pre .0 .2, s .pre .1 (c .before .before .before .before .wide .result))
+add-t17 : tie.Need-add-t17
+add-t17 c = search needs
 
 returns : tie.Need-returns
 returns c =
-    let a = c .before .before .before .before .before .before .before .args in
-    ap (λ (r : ℕ). record { tick = getD (a .table .now) (a .at + 3) 0; node = getD (a .sender .now) r 0; used = getD (a .table .now) (a .at + 4) 0 + getD (a .size .now) r 0 })
-    (c .before .before .before .before .wide .ensures)
+    let n = c .before .before in
+    let w = n .before .before in
+    let a = w .before .before .before .args in
+    let b = laid (a .index .now) in
+    λ i. record {
+      tick = getD (a .table .now) (a .at + 3) 0;
+      node = (n .sender-of .ensures .0 ∙ ap (λ (r : ℕ). getD (b .sender) r 0) (w .wide .ensures)) i;
+      used = getD (a .table .now) (a .at + 4) 0 + (c .size-of .ensures .0 ∙ ap (λ (r : ℕ). getD (b .size) r 0) (w .wide .ensures)) i;
+    }
 
 pub item-frame-spec : {M : Type 1} → statement M
 item-frame-spec =
@@ -65,15 +66,14 @@ item-frame-spec =
     mul-wide
     shared-slice-read-wide
     wide-requires
-    add-t6
-    mul-t9
-    shared-slice-read-t8
-    mul-t11
-    element-copy-out-t14
-    add-t15
-    mul-t16
-    shared-slice-read-t18
-    mul-t19
-    element-copy-out-t22
-    add-t23
+    add-t5
+    mul-t8
+    shared-slice-read-t7
+    sender-of-requires
+    cast-t11
+    add-t12
+    mul-t13
+    shared-slice-read-t15
+    size-of-requires
+    add-t17
     returns)

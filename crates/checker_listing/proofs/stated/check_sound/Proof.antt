@@ -14,8 +14,9 @@ use Rattle.lists.specs.Lists.{same-numbers}
 use Rattle.laws.proofs.Good.{good}
 use Rattle.laws.proofs.Sound.{sound-iff}
 use Rattle.plan.specs.Memory.{lines}
-use Rattle.plan_index.specs.Indexed.{Indexed}
-use Rattle.plan_index.proofs.IndexOfLines.{indexed-lines}
+use Rattle.plan_index.specs.Index.{laid}
+use Rattle.plan_layout.specs.Indexed.{Indexed}
+use Rattle.plan_layout.proofs.IndexOfLines.{indexed-lines}
 use Rattle.checker_listing.proofs.ListingAnswers.{counts}
 use Rattle.checker_listing.proofs.StatedAnswers.{plan-counts, plan-counts-long, answer-frames, answer-counts, answer-accepted}
 use Rattle.checker_listing.proofs.stated.check_sound.Statement.{statement}
@@ -33,19 +34,20 @@ of-plan-requires : tie.Need-of-plan-requires
 of-plan-requires c κs = fine (c .before .before)
 
 -- what the plan index says of the plan
-indexed : (c : tie.After-of-plan) → Indexed (lines (c .before .before .before .args .p)) (c .of-plan .result)
+indexed : (c : tie.After-of-plan) → Indexed (lines (c .before .before .before .args .p)) (laid (c .of-plan .result))
 indexed c = let s = c .before .before .before in indexed-lines (s .args .p) (fine s) (c .of-plan .ensures)
 
 gives-frames-requires : tie.Need-gives-frames-requires
 gives-frames-requires c κs =
-    let s = c .before .before .before in
+    let i = c .before in
+    let s = i .before .before .before in
     let h = s .pre .0 in
-    (record { plan = lines (s .args .p); delay = h .0; indexed = indexed c; sound = h .1 }, (s .pre .1 .0, s .pre .1 .1))
+    (record { plan = lines (s .args .p); delay = h .0; indexed = indexed i; sound = h .1 }, (s .pre .1 .0, s .pre .1 .1))
 
 returns : tie.Need-returns
 returns c delay sound =
     let g = c .before in
-    let i = g .before in
+    let i = g .before .before in
     let s = i .before .before .before in
     let p = lines (s .args .p) in
     answer-frames p (s .args .table .now) (s .args .frames .now) delay (stated s) (sound-iff p (s .args .table .now) delay .0 sound .1) (s .pre .1 .0) sound
@@ -55,11 +57,11 @@ no-counts-requires : tie.Need-no-counts-requires
 no-counts-requires c κs = search needs
 
 count-pass-overs-requires : tie.Need-count-pass-overs-requires
-count-pass-overs-requires c κs = fine (c .before .before .before .before .before .before .before)
+count-pass-overs-requires c κs = fine (c .before .before .before .before .before .before .before .before)
 
 same-counts-requires : tie.Need-same-counts-requires
 same-counts-requires c κs =
-    let s = c .before .before .before .before .before .before .before .before .before in
+    let s = c .before .before .before .before .before .before .before .before .before .before in
     let n = counts (s .args .p) .its-slots in (
       omega (arith, n, good (lines (s .args .p)) (fine s) .few-slots),
       s .pre .1 .2,
@@ -68,7 +70,7 @@ same-counts-requires c κs =
 
 -- where the function begins, seen from the test of the counts
 abbrev begun : tie.After-same-counts → tie.Start
-begun c = c .before .before .before .before .before .before .before .before .before .before
+begun c = c .before .before .before .before .before .before .before .before .before .before .before
 
 -- the test of the counts is that of the model
 counted : (c : tie.After-same-counts) → same-numbers (stated (begun c)) (result (lines (begun c .args .p)) .passed) ≡ c .same-counts .result
@@ -83,7 +85,7 @@ returns-2 c delay sound =
     let n = c .before in
     let e = n .before .before .before .before .before in
     let g = e .before in
-    let i = g .before in
+    let i = g .before .before in
     let s = i .before .before .before in
     let p = lines (s .args .p) in
     answer-counts p (s .args .table .now) (s .args .frames .now) delay (stated s) (sound-iff p (s .args .table .now) delay .0 sound .1) (s .pre .1 .0) sound
@@ -94,7 +96,7 @@ returns-3 c delay sound =
     let n = c .before in
     let e = n .before .before .before .before .before in
     let g = e .before in
-    let i = g .before in
+    let i = g .before .before in
     let s = i .before .before .before in
     let p = lines (s .args .p) in
     answer-accepted p (s .args .table .now) (s .args .frames .now) delay (stated s) (sound-iff p (s .args .table .now) delay .0 sound .1) (s .pre .1 .0) sound

@@ -3,11 +3,12 @@
 -- Assumes nothing.
 use mathlib.Core.Path.{refl, ap, _∙_}
 use Prim.Native.Nat.{ℕ, _+_}
-use native.Mathlib.Omega.{arith}
 use lib.ListN.{getD}
 use Rattle.model.specs.Table.{Entry}
-use Rattle.checker_rows.specs.MetRows.{entry-from, one-more, counted, ends, placed, column}
-use Rattle.checker_rows.proofs.TableWords.{stored, skipped}
+use Rattle.plan_index.specs.Index.{laid}
+use Rattle.log_rows.specs.Rows.{rows-of}
+use Rattle.checker_rows.specs.MetRows.{entry-from, one-more, counted, column}
+use Rattle.checker_rows.proofs.TableWords.{stored, skipped, entry-stored, entry-skipped}
 use borrow.Author.Needs.{needs}
 use Rattle.checker_rows.proofs.met.put_entry.Statement.{statement}
 use Rattle.checker_rows.proofs.met.put_entry.Tie as tie
@@ -36,9 +37,8 @@ returns c =
     let e : Entry = entry-from (a .table .now) (a .at) in
     let q = c .if1 .taken in (
       skipped counted (a .c) e (a .count .now) q,
-      skipped (ends (a .lasting .now)) (a .c) e (a .comes .now) q,
-      skipped placed (a .c) e (a .place .now) q,
       skipped column (a .c) e (a .known .now) q,
+      entry-skipped (laid (a .index .now) .span) (a .c) e (rows-of (a .rows .now)) q,
     )
 
 mul-wide : tie.Need-mul-wide
@@ -65,71 +65,60 @@ mul-count c = search needs
 element-write-count : tie.Need-element-write-count
 element-write-count c = search needs
 
-add-comes : tie.Need-add-comes
-add-comes c = search needs
-
-mul-comes : tie.Need-mul-comes
-mul-comes c = search needs
-
-shared-slice-read-comes : tie.Need-shared-slice-read-comes
-shared-slice-read-comes c = search needs
-
-mul-comes-2 : tie.Need-mul-comes-2
-mul-comes-2 c = search needs
-
-element-copy-out-comes : tie.Need-element-copy-out-comes
-element-copy-out-comes c = search needs
-
-add-comes-2 : tie.Need-add-comes-2
-add-comes-2 c =
-    let s = c .before .before .before .before .before .before .before .before .before .before in
-    omega (arith, s .pre .1 (c .before .before .before .before .wide .result))
-
-add-comes-3 : tie.Need-add-comes-3
-add-comes-3 c =
-    let s = c .before .before .before .before .before .before .before .before .before .before in
-    omega (arith, s .pre .1 (c .before .before .before .before .wide .result))
-
-mul-comes-3 : tie.Need-mul-comes-3
-mul-comes-3 c = search needs
-
-element-write-comes : tie.Need-element-write-comes
-element-write-comes c = search needs
-
-add-place : tie.Need-add-place
-add-place c = search needs
-
-mul-place : tie.Need-mul-place
-mul-place c = search needs
-
-shared-slice-read-place : tie.Need-shared-slice-read-place
-shared-slice-read-place c = search needs
-
-mul-place-2 : tie.Need-mul-place-2
-mul-place-2 c = search needs
-
-element-write-place : tie.Need-element-write-place
-element-write-place c = search needs
-
 mul-known : tie.Need-mul-known
 mul-known c = search needs
 
 element-write-known : tie.Need-element-write-known
 element-write-known c = search needs
 
+add-put-comes : tie.Need-add-put-comes
+add-put-comes c = search needs
+
+mul-put-comes : tie.Need-mul-put-comes
+mul-put-comes c = search needs
+
+shared-slice-read-put-comes : tie.Need-shared-slice-read-put-comes
+shared-slice-read-put-comes c = search needs
+
+span-of-requires : tie.Need-span-of-requires
+span-of-requires c κs = search needs
+
+add-put-comes-2 : tie.Need-add-put-comes-2
+add-put-comes-2 c = search needs
+
+add-put-comes-3 : tie.Need-add-put-comes-3
+add-put-comes-3 c = search needs
+
+put-comes-requires : tie.Need-put-comes-requires
+put-comes-requires c κs = search needs
+
+add-put-place : tie.Need-add-put-place
+add-put-place c = search needs
+
+mul-put-place : tie.Need-mul-put-place
+mul-put-place c = search needs
+
+shared-slice-read-put-place : tie.Need-shared-slice-read-put-place
+shared-slice-read-put-place c = search needs
+
+put-place-requires : tie.Need-put-place-requires
+put-place-requires c κs = search needs
+
 returns-2 : tie.Need-returns-2
 returns-2 c =
-    let n = c .before .before .before in
-    let w = n .before .before in
+    let t = c .before .before .before in
+    let n = t .before in
+    let k = n .before .before .before in
+    let w = k .before .before in
     let m = w .before .before in
     let a = m .before .before .before .before .args in
     let e : Entry = entry-from (a .table .now) (a .at) in
     let q = m .if1 .left in
-    let r = w .wide .ensures in (
-      stored counted (a .c) e (a .count .now) q r (n .count-up .ensures ∙ ap (λ (i : ℕ). one-more (getD (a .count .now) i 0)) r),
-      stored (ends (a .lasting .now)) (a .c) e (a .comes .now) q r (ap (λ (i : ℕ). e .tick + getD (a .lasting .now) i 0 + 1) r),
-      stored placed (a .c) e (a .place .now) q r refl,
+    let r = w .wide .ensures in
+    let x = ap (λ (y : ℕ). e .tick + y + 1) (n .span-of .ensures .0 ∙ ap (λ (i : ℕ). getD (laid (a .index .now) .span) i 0) r) in (
+      stored counted (a .c) e (a .count .now) q r (k .count-up .ensures ∙ ap (λ (i : ℕ). one-more (getD (a .count .now) i 0)) r),
       stored column (a .c) e (a .known .now) q r refl,
+      entry-stored (laid (a .index .now) .span) (a .c) e (rows-of (a .rows .now)) q r x refl (t .put-comes .ensures) (c .put-place .ensures),
     )
 
 pub put-entry-spec : {M : Type 1} → statement M
@@ -151,20 +140,17 @@ put-entry-spec =
     count-up-requires
     mul-count
     element-write-count
-    add-comes
-    mul-comes
-    shared-slice-read-comes
-    mul-comes-2
-    element-copy-out-comes
-    add-comes-2
-    add-comes-3
-    mul-comes-3
-    element-write-comes
-    add-place
-    mul-place
-    shared-slice-read-place
-    mul-place-2
-    element-write-place
     mul-known
     element-write-known
+    add-put-comes
+    mul-put-comes
+    shared-slice-read-put-comes
+    span-of-requires
+    add-put-comes-2
+    add-put-comes-3
+    put-comes-requires
+    add-put-place
+    mul-put-place
+    shared-slice-read-put-place
+    put-place-requires
     returns-2)

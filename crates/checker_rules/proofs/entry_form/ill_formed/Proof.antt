@@ -6,8 +6,9 @@ use native.Mathlib.Omega.{arith}
 use lib.Dec.{ltb}
 use borrow.Author.Tests.{le-leb, lt-leb, lt-ltb, le-ltb, eq-eqb, ne-eqb}
 use Rattle.model.specs.Table.{Entry}
+use Rattle.plan_index.specs.Index.{laid}
 use Rattle.checker_rows.specs.MetRows.{entry-from}
-use Rattle.checker_rules.specs.EntryForm.{local-row, ill-formed-by}
+use Rattle.checker_rules.specs.EntryForm.{ill-formed-by, is-local-row}
 use Rattle.checker_rules.proofs.EntryCases.{Passed, none-yet, pass, settles}
 use borrow.Author.Needs.{needs}
 use Rattle.checker_rules.proofs.entry_form.ill_formed.Statement.{statement}
@@ -22,18 +23,19 @@ entry w = entry-from (start w .args .table .now) (start w .args .at)
 
 -- what `is_local` answers of the entry's row
 local-told : (c : tie.After-is-local) →
-    let w = c .before .before in
+    let w = c .before .before .before in
     let a = start w .args in
-    local-row (a .processes) (a .conditionrow) (a .remote .now) (entry w .row) ≡ c .is-local .result
+    is-local-row (laid (a .index .now)) (entry w .row) ≡ c .is-local .result
 local-told c =
-    let a = start (c .before .before) .args in
-    ap (local-row (a .processes) (a .conditionrow) (a .remote .now)) (sym (c .before .before .wide .ensures)) ∙ sym (c .is-local .ensures)
+    let w = c .before .before .before in
+    ap (is-local-row (laid (start w .args .index .now))) (sym (w .wide .ensures)) ∙ sym (c .is-local .ensures)
 
 -- the tests that are passed by: those before, and one more
 abbrev past-1 : tie.Else1 → Passed tie.After-wide
 past-1 c =
-    let w = c .before in
-    pass (none-yet w) (lt-leb (start w .args .rows) (entry w .row) (omega (arith, w .wide .ensures, c .if1 .left)))
+    let n = c .before in
+    let w = n .before in
+    pass (none-yet w) (lt-leb (laid (start w .args .index .now) .rows) (entry w .row) (omega (arith, w .wide .ensures, n .rows-of .ensures .0, c .if1 .left)))
 
 abbrev past-2 : tie.Else2 → Passed tie.After-wide
 past-2 c = pass (past-1 (c .before .before)) (local-told (c .before) ∙ c .if2 .left)
@@ -65,18 +67,23 @@ shared-slice-read-wide c = search needs
 wide-requires : tie.Need-wide-requires
 wide-requires c κs = search needs
 
+rows-of-requires : tie.Need-rows-of-requires
+rows-of-requires c κs = search needs
+
 returns : tie.Need-returns
 unfolding ill-formed-by
 returns c =
-    let w = c .before in
-    settles (none-yet w) _ (le-leb (start w .args .rows) (entry w .row) (omega (arith, w .wide .ensures, c .if1 .taken)))
+    let n = c .before in
+    let w = n .before in
+    settles (none-yet w) _ (le-leb (laid (start w .args .index .now) .rows) (entry w .row) (omega (arith, w .wide .ensures, n .rows-of .ensures .0, c .if1 .taken)))
 
 is-local-requires : tie.Need-is-local-requires
 is-local-requires c κs = search needs
 
 returns-2 : tie.Need-returns-2
 unfolding ill-formed-by
-returns-2 c = settles (past-1 (c .before .before)) _ (local-told (c .before) ∙ c .if2 .taken)
+returns-2 c =
+    settles (past-1 (c .before .before)) _ (local-told (c .before) ∙ c .if2 .taken)
 
 add-known : tie.Need-add-known
 add-known c = search needs
@@ -104,7 +111,8 @@ shared-slice-read-values c = search needs
 
 returns-4 : tie.Need-returns-4
 unfolding ill-formed-by
-returns-4 c = settles (past-3 (c .before .before)) _ (ap not (ne-eqb _ _ (c .if4 .taken)))
+returns-4 c =
+    settles (past-3 (c .before .before)) _ (ap not (ne-eqb _ _ (c .if4 .taken)))
 
 add-if5 : tie.Need-add-if5
 add-if5 c = search needs
@@ -136,18 +144,23 @@ returns-6 c =
     let q = past-5 (c .before .before) in
     settles q _ (lt-ltb 63 (entry (q .from) .place) (omega (arith, c .if6 .taken)))
 
+processes-of-requires : tie.Need-processes-of-requires
+processes-of-requires c κs = search needs
+
 returns-7 : tie.Need-returns-7
 unfolding ill-formed-by
 returns-7 c =
-    let q = past-6 (c .before) in
-    let l = lt-ltb (entry (q .from) .row) (start (q .from) .args .processes) (omega (arith, q .from .wide .ensures, c .if7 .taken)) in
+    let n = c .before in
+    let q = past-6 (n .before) in
+    let l = lt-ltb (entry (q .from) .row) (laid (start (q .from) .args .index .now) .processes) (omega (arith, q .from .wide .ensures, n .processes-of .ensures .0, c .if7 .taken)) in
     sym (ap (λ (b : Bool). b && ltb 0 (entry (q .from) .place)) l) ∙ q .behind _
 
 returns-8 : tie.Need-returns-8
 unfolding ill-formed-by
 returns-8 c =
-    let q = past-6 (c .before) in
-    let l = le-ltb (entry (q .from) .row) (start (q .from) .args .processes) (omega (arith, q .from .wide .ensures, c .if7 .left)) in
+    let n = c .before in
+    let q = past-6 (n .before) in
+    let l = le-ltb (entry (q .from) .row) (laid (start (q .from) .args .index .now) .processes) (omega (arith, q .from .wide .ensures, n .processes-of .ensures .0, c .if7 .left)) in
     sym (ap (λ (b : Bool). b && ltb 0 (entry (q .from) .place)) l) ∙ q .behind _
 
 pub ill-formed-spec : {M : Type 1} → statement M
@@ -157,6 +170,7 @@ ill-formed-spec =
     mul-wide
     shared-slice-read-wide
     wide-requires
+    rows-of-requires
     returns
     is-local-requires
     returns-2
@@ -176,5 +190,6 @@ ill-formed-spec =
     mul-place
     shared-slice-read-place
     returns-6
+    processes-of-requires
     returns-7
     returns-8)

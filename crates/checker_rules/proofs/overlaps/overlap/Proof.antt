@@ -1,35 +1,45 @@
 -- `checker_rules::overlap` meets its contract: the processes from i on give the whole answer.
 -- Assumes nothing.
-use mathlib.Core.Path.{_≡_, refl, sym, _∙_}
+use mathlib.Core.Path.{_≡_, sym, _∙_, ap}
 use mathlib.Core.Bool.{Bool}
 use Prim.Native.Nat.{ℕ, _-_}
-use Rattle.checker_rows.specs.MetArrays.{some}
-use Rattle.checker_rules.specs.Rules.{overlaps-by, overlap-by}
-use Rattle.checker_rows.proofs.RangeLoops.{some-next, some-found, some-none}
-use Rattle.checker_rules.proofs.overlaps.overlap.Statement.{statement}
+use native.Mathlib.Omega.{arith}
 use borrow.Author.Needs.{needs}
+use Rattle.plan_index.specs.Index.{laid}
+use Rattle.log_rows.specs.Rows.{rows-of}
+use Rattle.checker_rows.specs.MetArrays.{some}
+use Rattle.checker_rows.proofs.RangeLoops.{some-next, some-found, some-none}
+use Rattle.checker_rules.specs.Rules.{overlap-by, row-overlaps, some-overlap}
+use Rattle.checker_rules.proofs.overlaps.overlap.Statement.{statement}
 use Rattle.checker_rules.proofs.overlaps.overlap.Tie as tie
 
 abbrev Inv-loop : tie.InvT-loop
-Inv-loop processes node comes span i₀ i = some (overlaps-by node comes span) 0 processes ≡ some (overlaps-by node comes span) i processes
+Inv-loop index rows processes i₀ i = some-overlap (laid index) (rows-of rows) ≡ some (row-overlaps (laid index) (rows-of rows)) i processes
 
 abbrev μ-loop : tie.MeasureT-loop
-μ-loop processes node comes span i₀ i = processes - i
+μ-loop index rows processes i₀ i = processes - i
+
+processes-of-requires : tie.Need-processes-of-requires Inv-loop μ-loop
+processes-of-requires c κs = search needs
 
 loop-holds : tie.Need-loop-holds Inv-loop μ-loop
+unfolding overlap-by
 loop-holds c =
-    refl
+    let a = c .before .args in
+    ap (some (row-overlaps (laid (a .index .now)) (rows-of (a .rows .now))) 0) (sym (c .processes-of .ensures .0))
 
 overlaps-requires : tie.Need-overlaps-requires Inv-loop μ-loop
-overlaps-requires c κs = search needs
+overlaps-requires c κs =
+    let n = c .before .before in
+    (omega (arith, c .loop-test .taken, n .processes-of .ensures .1), n .before .pre)
 
 returns : tie.Need-returns Inv-loop μ-loop
-unfolding overlap-by
 returns c =
     let l = c .before .before .before in
-    let a = l .before .args in
-    let f : ℕ → Bool = overlaps-by (a .node .now) (a .comes .now) (a .span .now) in
-    sym (l .loop .inv ∙ some-found f (a .processes) (l .loop .i) (c .before .before .loop-test .taken) (sym (c .before .overlaps .ensures) ∙ c .if1 .taken))
+    let n = l .before in
+    let a = n .before .args in
+    let f : ℕ → Bool = row-overlaps (laid (a .index .now)) (rows-of (a .rows .now)) in
+    sym (l .loop .inv ∙ some-found f (n .processes-of .result) (l .loop .i) (c .before .before .loop-test .taken) (sym (c .before .overlaps .ensures) ∙ c .if1 .taken))
 
 add-i : tie.Need-add-i Inv-loop μ-loop
 add-i c = search needs
@@ -40,17 +50,18 @@ loop-less c = search needs
 loop-again : tie.Need-loop-again Inv-loop μ-loop
 loop-again c =
     let l = c .before .before .before in
-    let a = l .before .args in
-    let f : ℕ → Bool = overlaps-by (a .node .now) (a .comes .now) (a .span .now) in
-    l .loop .inv ∙ some-next f (a .processes) (l .loop .i) (c .before .before .loop-test .taken) (sym (c .before .overlaps .ensures) ∙ c .if1 .left)
+    let n = l .before in
+    let a = n .before .args in
+    let f : ℕ → Bool = row-overlaps (laid (a .index .now)) (rows-of (a .rows .now)) in
+    l .loop .inv ∙ some-next f (n .processes-of .result) (l .loop .i) (c .before .before .loop-test .taken) (sym (c .before .overlaps .ensures) ∙ c .if1 .left)
 
 returns-2 : tie.Need-returns-2 Inv-loop μ-loop
-unfolding overlap-by
 returns-2 c =
     let l = c .before in
-    let a = l .before .args in
-    let f : ℕ → Bool = overlaps-by (a .node .now) (a .comes .now) (a .span .now) in
-    sym (l .loop .inv ∙ some-none f (a .processes) (l .loop .i) (c .loop-test .left))
+    let n = l .before in
+    let a = n .before .args in
+    let f : ℕ → Bool = row-overlaps (laid (a .index .now)) (rows-of (a .rows .now)) in
+    sym (l .loop .inv ∙ some-none f (n .processes-of .result) (l .loop .i) (c .loop-test .left))
 
 pub overlap-spec : {M : Type 1} → statement M
 overlap-spec =
@@ -58,6 +69,7 @@ overlap-spec =
     (tie.spec
     Inv-loop
     μ-loop
+    processes-of-requires
     loop-holds
     overlaps-requires
     returns

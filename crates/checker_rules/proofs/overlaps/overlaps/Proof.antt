@@ -5,40 +5,37 @@ use mathlib.Core.Bool.{Bool}
 use Prim.Native.Nat.{ℕ, _-_}
 use native.Mathlib.Omega.{arith}
 use borrow.Author.Tests.{eq-eqb, ne-eqb}
+use borrow.Author.Needs.{needs}
+use Rattle.plan_index.specs.Index.{laid}
+use Rattle.log_rows.specs.Rows.{rows-of}
 use Rattle.log_queries.specs.Reading.{placed-by}
 use Rattle.checker_rows.specs.MetArrays.{some}
-use Rattle.checker_rules.specs.Rules.{together-by, overlaps-by}
 use Rattle.checker_rows.proofs.RangeLoops.{some-next, some-found, some-none}
+use Rattle.checker_rules.specs.Rules.{overlaps-by, run-at-once}
 use Rattle.checker_rules.proofs.overlaps.overlaps.Statement.{statement}
-use borrow.Author.Needs.{needs}
 use Rattle.checker_rules.proofs.overlaps.overlaps.Tie as tie
 
 abbrev Inv-loop : tie.InvT-loop
-Inv-loop node comes span i j₀ j = some (together-by node comes span i) 0 i ≡ some (together-by node comes span i) j i
+Inv-loop index rows i j₀ j = some (run-at-once (laid index) (rows-of rows) i) 0 i ≡ some (run-at-once (laid index) (rows-of rows) i) j i
 
 abbrev μ-loop : tie.MeasureT-loop
-μ-loop node comes span i j₀ j = i - j
+μ-loop index rows i j₀ j = i - j
 
-mul-if1 : tie.Need-mul-if1 Inv-loop μ-loop
-mul-if1 c = search needs
-
-element-copy-out-if1 : tie.Need-element-copy-out-if1 Inv-loop μ-loop
-element-copy-out-if1 c = search needs
+comes-of-requires : tie.Need-comes-of-requires Inv-loop μ-loop
+comes-of-requires c κs = search needs
 
 returns : tie.Need-returns Inv-loop μ-loop
 unfolding overlaps-by placed-by
-returns c =
-    simp (eq-eqb _ _ (c .if1 .taken))
+returns c = simp (← c .before .comes-of .ensures, eq-eqb _ _ (c .if1 .taken))
 
 loop-holds : tie.Need-loop-holds Inv-loop μ-loop
-loop-holds c =
-    refl
+loop-holds c = refl
 
 together-requires : tie.Need-together-requires Inv-loop μ-loop
 together-requires c κs =
     let e = c .before .before in
     let s = e .before .before in
-    (s .pre .0, omega arith, e .if1 .left, s .pre .1)
+    ((s .pre .0, omega (arith, c .loop-test .taken, s .pre .0), λ q. e .if1 .left (e .before .comes-of .ensures ∙ q)), s .pre .1)
 
 returns-2 : tie.Need-returns-2 Inv-loop μ-loop
 unfolding overlaps-by placed-by
@@ -46,8 +43,8 @@ returns-2 c =
     let l = c .before .before .before in
     let e = l .before in
     let a = e .before .before .args in
-    let f : ℕ → Bool = together-by (a .node .now) (a .comes .now) (a .span .now) (a .i) in
-    sym (rw (ne-eqb _ _ (e .if1 .left)) (l .loop .inv ∙ some-found f (a .i) (l .loop .j) (c .before .before .loop-test .taken) (sym (c .before .together .ensures) ∙ c .if2 .taken)))
+    let f : ℕ → Bool = run-at-once (laid (a .index .now)) (rows-of (a .rows .now)) (a .i) in
+    sym (rw (← e .before .comes-of .ensures, ne-eqb _ _ (e .if1 .left)) (l .loop .inv ∙ some-found f (a .i) (l .loop .j) (c .before .before .loop-test .taken) (sym (c .before .together .ensures) ∙ c .if2 .taken)))
 
 add-j : tie.Need-add-j Inv-loop μ-loop
 add-j c = search needs
@@ -59,7 +56,7 @@ loop-again : tie.Need-loop-again Inv-loop μ-loop
 loop-again c =
     let l = c .before .before .before in
     let a = l .before .before .before .args in
-    let f : ℕ → Bool = together-by (a .node .now) (a .comes .now) (a .span .now) (a .i) in
+    let f : ℕ → Bool = run-at-once (laid (a .index .now)) (rows-of (a .rows .now)) (a .i) in
     l .loop .inv ∙ some-next f (a .i) (l .loop .j) (c .before .before .loop-test .taken) (sym (c .before .together .ensures) ∙ c .if2 .left)
 
 returns-3 : tie.Need-returns-3 Inv-loop μ-loop
@@ -68,8 +65,8 @@ returns-3 c =
     let l = c .before in
     let e = l .before in
     let a = e .before .before .args in
-    let f : ℕ → Bool = together-by (a .node .now) (a .comes .now) (a .span .now) (a .i) in
-    sym (rw (ne-eqb _ _ (e .if1 .left)) (l .loop .inv ∙ some-none f (a .i) (l .loop .j) (c .loop-test .left)))
+    let f : ℕ → Bool = run-at-once (laid (a .index .now)) (rows-of (a .rows .now)) (a .i) in
+    sym (rw (← e .before .comes-of .ensures, ne-eqb _ _ (e .if1 .left)) (l .loop .inv ∙ some-none f (a .i) (l .loop .j) (c .loop-test .left)))
 
 pub overlaps-spec : {M : Type 1} → statement M
 overlaps-spec =
@@ -77,8 +74,7 @@ overlaps-spec =
     (tie.spec
     Inv-loop
     μ-loop
-    mul-if1
-    element-copy-out-if1
+    comes-of-requires
     returns
     loop-holds
     together-requires

@@ -1,5 +1,6 @@
 -- `checker_rules::together` meets its contract, by the tests that come before the last.
 -- Assumes nothing.
+use mathlib.Core.Path.{_∙_}
 use native.Mathlib.Omega.{arith}
 use borrow.Author.Tests.{eq-eqb, ne-eqb, le-leb, lt-leb}
 use Rattle.log_queries.specs.Reading.{placed-by}
@@ -9,109 +10,102 @@ use borrow.Author.Needs.{needs}
 use Rattle.checker_rules.proofs.overlaps.together.Statement.{statement}
 use Rattle.checker_rules.proofs.overlaps.together.Tie as tie
 
-mul-x : tie.Need-mul-x
-mul-x c = search needs
-
-element-copy-out-x : tie.Need-element-copy-out-x
-element-copy-out-x c = search needs
+comes-of-requires : tie.Need-comes-of-requires
+comes-of-requires c κs = search needs
 
 returns : tie.Need-returns
 unfolding together-by placed-by
-returns c =
-    simp (eq-eqb _ _ (c .if1 .taken))
+returns c = simp (← c .before .comes-of .ensures, eq-eqb _ _ (c .if1 .taken))
 
-mul-if2 : tie.Need-mul-if2
-mul-if2 c = search needs
+node-of-requires : tie.Need-node-of-requires
+node-of-requires c κs = search needs
 
-element-copy-out-if2 : tie.Need-element-copy-out-if2
-element-copy-out-if2 c = search needs
-
-mul-if2-2 : tie.Need-mul-if2-2
-mul-if2-2 c = search needs
-
-element-copy-out-if2-2 : tie.Need-element-copy-out-if2-2
-element-copy-out-if2-2 c = search needs
+node-of-requires-2 : tie.Need-node-of-requires-2
+node-of-requires-2 c κs = search needs
 
 returns-2 : tie.Need-returns-2
 unfolding together-by placed-by
 returns-2 c =
-    let e = c .before .before .before in
-    simp (ne-eqb _ _ (e .if1 .left), ne-eqb _ _ (c .if2 .taken))
+    let n = c .before in
+    let m = n .before in
+    let e = m .before in
+    simp (← e .before .comes-of .ensures, ne-eqb _ _ (e .if1 .left), ← m .node-of .ensures .0, ← n .node-of2 .ensures .0, ne-eqb _ _ (c .if2 .taken))
 
-mul-y : tie.Need-mul-y
-mul-y c = search needs
+comes-of-requires-2 : tie.Need-comes-of-requires-2
+comes-of-requires-2 c κs = search needs
 
-element-copy-out-y : tie.Need-element-copy-out-y
-element-copy-out-y c = search needs
-
-mul-if3 : tie.Need-mul-if3
-mul-if3 c = search needs
-
-element-copy-out-if3 : tie.Need-element-copy-out-if3
-element-copy-out-if3 c = search needs
+span-of-requires : tie.Need-span-of-requires
+span-of-requires c κs = search needs
 
 sub-if3 : tie.Need-sub-if3
 sub-if3 c =
-    let s = c .before .before .before .before .before .before .before in
-    let l = s .pre .3 .lasts (s .args .i) (s .pre .2) in
-    omega arith
+    let y = c .before in
+    let s = y .before .before .before .before .before .before in
+    let l = s .pre .1 .1 .lasts (s .args .i) (s .pre .0 .2) in
+    omega (arith, y .comes-of2 .ensures, c .span-of .ensures .0, l)
 
 returns-3 : tie.Need-returns-3
 unfolding together-by placed-by start-by
 returns-3 c =
-    let d = c .before .before .before in
-    let e = d .before .before .before in
-    simp (ne-eqb _ _ (e .if1 .left), eq-eqb _ _ (d .if2 .left), le-leb _ _ (c .if3 .taken))
+    let a = c .before in
+    let y = a .before in
+    let d = y .before in
+    let n = d .before in
+    let m = n .before in
+    let e = m .before in
+    simp (← e .before .comes-of .ensures, ne-eqb _ _ (e .if1 .left), ← m .node-of .ensures .0, ← n .node-of2 .ensures .0, eq-eqb _ _ (d .if2 .left), ← y .comes-of2 .ensures, ← a .span-of .ensures .0, le-leb _ _ (c .if3 .taken))
 
-mul-if4 : tie.Need-mul-if4
-mul-if4 c = search needs
-
-element-copy-out-if4 : tie.Need-element-copy-out-if4
-element-copy-out-if4 c = search needs
+span-of-requires-2 : tie.Need-span-of-requires-2
+span-of-requires-2 c κs = search needs
 
 sub-if4 : tie.Need-sub-if4
 sub-if4 c =
     let e = c .before .before .before .before .before .before .before in
-    let s = e .before .before in
-    let l = s .pre .3 .lasts (s .args .j) (e .if1 .left) in
-    omega arith
+    let x = e .before in
+    let s = x .before in
+    let l = s .pre .1 .1 .lasts (s .args .j) (λ q. e .if1 .left (x .comes-of .ensures ∙ q)) in
+    omega (arith, x .comes-of .ensures, c .span-of2 .ensures .0, l)
 
 returns-4 : tie.Need-returns-4
 unfolding together-by placed-by start-by
 returns-4 c =
-    let t = c .before .before in
-    let d = t .before .before .before in
-    let e = d .before .before .before in
-    simp (ne-eqb _ _ (e .if1 .left), eq-eqb _ _ (d .if2 .left), lt-leb _ _ (t .if3 .left), le-leb _ _ (c .if4 .taken))
+    let z = c .before in
+    let t = z .before in
+    let a = t .before in
+    let y = a .before in
+    let d = y .before in
+    let n = d .before in
+    let m = n .before in
+    let e = m .before in
+    simp (← e .before .comes-of .ensures, ne-eqb _ _ (e .if1 .left), ← m .node-of .ensures .0, ← n .node-of2 .ensures .0, eq-eqb _ _ (d .if2 .left), ← y .comes-of2 .ensures, ← a .span-of .ensures .0, lt-leb _ _ (t .if3 .left), ← z .span-of2 .ensures .0, le-leb _ _ (c .if4 .taken))
 
 returns-5 : tie.Need-returns-5
 unfolding together-by placed-by start-by
 returns-5 c =
-    let t = c .before .before in
-    let d = t .before .before .before in
-    let e = d .before .before .before in
-    simp (ne-eqb _ _ (e .if1 .left), eq-eqb _ _ (d .if2 .left), lt-leb _ _ (t .if3 .left), lt-leb _ _ (c .if4 .left))
+    let z = c .before in
+    let t = z .before in
+    let a = t .before in
+    let y = a .before in
+    let d = y .before in
+    let n = d .before in
+    let m = n .before in
+    let e = m .before in
+    simp (← e .before .comes-of .ensures, ne-eqb _ _ (e .if1 .left), ← m .node-of .ensures .0, ← n .node-of2 .ensures .0, eq-eqb _ _ (d .if2 .left), ← y .comes-of2 .ensures, ← a .span-of .ensures .0, lt-leb _ _ (t .if3 .left), ← z .span-of2 .ensures .0, lt-leb _ _ (c .if4 .left))
 
 pub together-spec : {M : Type 1} → statement M
 together-spec =
     tie.close
     (tie.spec
-    mul-x
-    element-copy-out-x
+    comes-of-requires
     returns
-    mul-if2
-    element-copy-out-if2
-    mul-if2-2
-    element-copy-out-if2-2
+    node-of-requires
+    node-of-requires-2
     returns-2
-    mul-y
-    element-copy-out-y
-    mul-if3
-    element-copy-out-if3
+    comes-of-requires-2
+    span-of-requires
     sub-if3
     returns-3
-    mul-if4
-    element-copy-out-if4
+    span-of-requires-2
     sub-if4
     returns-4
     returns-5)

@@ -1,7 +1,11 @@
 -- `checker_rules::off` meets its contract.
 -- Assumes nothing.
+use mathlib.Core.Path.{ap, _∙_}
+use Prim.Native.Nat.{ℕ}
 use native.Mathlib.Omega.{arith}
+use lib.ListN.{getD}
 use borrow.Author.Tests.{eq-eqb, ne-eqb}
+use Rattle.plan_index.specs.Index.{laid}
 use Rattle.log_queries.specs.Reading.{placed-by}
 use Rattle.checker_rows.specs.MetArrays.{start-by}
 use Rattle.checker_rules.specs.Rules.{off-by}
@@ -9,87 +13,79 @@ use borrow.Author.Needs.{needs}
 use Rattle.checker_rules.proofs.slot_beginnings.off.Statement.{statement}
 use Rattle.checker_rules.proofs.slot_beginnings.off.Tie as tie
 
-mul-x : tie.Need-mul-x
-mul-x c = search needs
-
-element-copy-out-x : tie.Need-element-copy-out-x
-element-copy-out-x c = search needs
+comes-of-requires : tie.Need-comes-of-requires
+comes-of-requires c κs = search needs
 
 returns : tie.Need-returns
 unfolding off-by placed-by
-returns c =
-    simp (eq-eqb _ _ (c .if1 .taken))
+returns c = simp (← c .before .comes-of .ensures, eq-eqb _ _ (c .if1 .taken))
 
-mul-tick : tie.Need-mul-tick
-mul-tick c = search needs
-
-element-copy-out-tick : tie.Need-element-copy-out-tick
-element-copy-out-tick c = search needs
+span-of-requires : tie.Need-span-of-requires
+span-of-requires c κs = search needs
 
 sub-tick : tie.Need-sub-tick
 sub-tick c =
     let e = c .before in
-    let s = e .before .before in
-    let l = s .pre .1 .1 .lasts (s .args .r) (e .if1 .left) in
-    omega arith
+    let x = e .before in
+    let s = x .before in
+    let l = s .pre .1 .1 .0 .lasts (s .args .r) (λ q. e .if1 .left (x .comes-of .ensures ∙ q)) in
+    omega (arith, x .comes-of .ensures, c .span-of .ensures .0, l)
 
 sub-tick-2 : tie.Need-sub-tick-2
 sub-tick-2 c =
     let e = c .before in
-    let s = e .before .before in
-    let l = s .pre .1 .1 .lasts (s .args .r) (e .if1 .left) in
-    omega arith
+    let x = e .before in
+    let s = x .before in
+    let l = s .pre .1 .1 .0 .lasts (s .args .r) (λ q. e .if1 .left (x .comes-of .ensures ∙ q)) in
+    omega (arith, x .comes-of .ensures, c .span-of .ensures .0, l)
 
-mul-n : tie.Need-mul-n
-mul-n c = search needs
+sender-of-requires : tie.Need-sender-of-requires
+sender-of-requires c κs = search needs
 
-element-copy-out-n : tie.Need-element-copy-out-n
-element-copy-out-n c = search needs
+round-of-requires : tie.Need-round-of-requires
+round-of-requires c κs = search needs
 
-cast-n : tie.Need-cast-n
-cast-n c =
-    let s = c .before .before .before .before in
-    omega (arith, s .pre .1 .0 .nodes (s .args .r))
-
-mul-first-beginning : tie.Need-mul-first-beginning
-mul-first-beginning c =
-    let s = c .before .before .before .before in
-    omega (arith, s .pre .1 .0 .nodes (s .args .r))
-
-element-copy-out-first-beginning : tie.Need-element-copy-out-first-beginning
-element-copy-out-first-beginning c =
-    let s = c .before .before .before .before in
-    omega (arith, s .pre .1 .0 .nodes (s .args .r))
+offset-of-requires : tie.Need-offset-of-requires
+offset-of-requires c κs = search needs
 
 first-beginning-requires : tie.Need-first-beginning-requires
 first-beginning-requires c κs =
-    let e = c .before .before .before in
-    let s = e .before .before in
-    let b = s .pre .1 .0 in
-    let l = s .pre .1 .1 .soon (s .args .r) in
-    (b .round-one, b .round-most, b .offsets (s .args .r) (e .if1 .left), omega arith)
+    let n = c .before in
+    let m = n .before in
+    let e = m .before .before in
+    let x = e .before in
+    let s = x .before in
+    let b = laid (s .args .index .now) in
+    let h = s .pre .1 .1 .1 in
+    let l = s .pre .1 .1 .0 .soon (s .args .r) in
+    let o = c .offset-of .ensures ∙ ap (λ (k : ℕ). getD (b .offset) k 0) (m .sender-of .ensures .0) in (
+      omega (arith, n .round-of .ensures, h .round-one),
+      omega (arith, n .round-of .ensures, h .round-most),
+      omega (arith, o, h .offsets (s .args .r) (λ q. e .if1 .left (x .comes-of .ensures ∙ q))),
+      omega (arith, x .comes-of .ensures, l),
+    )
 
 returns-2 : tie.Need-returns-2
 unfolding off-by placed-by start-by
 returns-2 c =
-    let e = c .before .before .before .before in
-    simp (ne-eqb _ _ (e .if1 .left), c .first-beginning .ensures)
+    let o = c .before in
+    let n = o .before in
+    let m = n .before in
+    let a = m .before in
+    let e = a .before in
+    simp (← e .before .comes-of .ensures, ne-eqb _ _ (e .if1 .left), ← a .span-of .ensures .0, ← m .sender-of .ensures .0, ← n .round-of .ensures, ← o .offset-of .ensures, c .first-beginning .ensures)
 
 pub off-spec : {M : Type 1} → statement M
 off-spec =
     tie.close
     (tie.spec
-    mul-x
-    element-copy-out-x
+    comes-of-requires
     returns
-    mul-tick
-    element-copy-out-tick
+    span-of-requires
     sub-tick
     sub-tick-2
-    mul-n
-    element-copy-out-n
-    cast-n
-    mul-first-beginning
-    element-copy-out-first-beginning
+    sender-of-requires
+    round-of-requires
+    offset-of-requires
     first-beginning-requires
     returns-2)

@@ -1,35 +1,48 @@
 -- `checker_rules::off_slot` meets its contract: the rows from r on give the whole answer.
 -- Assumes nothing.
-use mathlib.Core.Path.{_≡_, refl, sym, _∙_}
+use mathlib.Core.Path.{_≡_, sym, _∙_}
 use mathlib.Core.Bool.{Bool}
 use Prim.Native.Nat.{ℕ, _-_}
-use Rattle.checker_rows.specs.MetArrays.{some}
-use Rattle.checker_rules.specs.Rules.{off-by, off-slot-by}
-use Rattle.checker_rows.proofs.RangeLoops.{some-next, some-found, some-none}
-use Rattle.checker_rules.proofs.slot_beginnings.off_slot.Statement.{statement}
+use native.Mathlib.Omega.{arith}
 use borrow.Author.Needs.{needs}
+use Rattle.plan_index.specs.Index.{laid}
+use Rattle.log_rows.specs.Rows.{rows-of}
+use Rattle.checker_rows.specs.MetArrays.{some}
+use Rattle.checker_rows.proofs.RangeLoops.{some-next, some-found, some-none}
+use Rattle.checker_rules.specs.Rules.{off-slot-by, row-off, some-off}
+use Rattle.checker_rules.proofs.slot_beginnings.off_slot.Statement.{statement}
 use Rattle.checker_rules.proofs.slot_beginnings.off_slot.Tie as tie
 
 abbrev Inv-loop : tie.InvT-loop
-Inv-loop processes rows round offset sender comes span r₀ r = some (off-by round offset sender comes span) processes rows ≡ some (off-by round offset sender comes span) r rows
+Inv-loop index rows end r₀ r = some-off (laid index) (rows-of rows) ≡ some (row-off (laid index) (rows-of rows)) r end
 
 abbrev μ-loop : tie.MeasureT-loop
-μ-loop processes rows round offset sender comes span r₀ r = rows - r
+μ-loop index rows end r₀ r = end - r
+
+rows-of-requires : tie.Need-rows-of-requires Inv-loop μ-loop
+rows-of-requires c κs = search needs
+
+processes-of-requires : tie.Need-processes-of-requires Inv-loop μ-loop
+processes-of-requires c κs = search needs
 
 loop-holds : tie.Need-loop-holds Inv-loop μ-loop
+unfolding off-slot-by
 loop-holds c =
-    refl
+    let a = c .before .before .args in
+    λ k. some (row-off (laid (a .index .now)) (rows-of (a .rows .now))) (sym (c .processes-of .ensures .0) k) (sym (c .before .rows-of .ensures .0) k)
 
 off-requires : tie.Need-off-requires Inv-loop μ-loop
-off-requires c κs = search needs
+off-requires c κs =
+    let n = c .before .before .before in
+    (omega (arith, c .loop-test .taken, n .rows-of .ensures .1), n .before .pre)
 
 returns : tie.Need-returns Inv-loop μ-loop
-unfolding off-slot-by
 returns c =
     let l = c .before .before .before in
-    let a = l .before .args in
-    let f : ℕ → Bool = off-by (a .round) (a .offset .now) (a .sender .now) (a .comes .now) (a .span .now) in
-    sym (l .loop .inv ∙ some-found f (a .rows) (l .loop .r) (c .before .before .loop-test .taken) (sym (c .before .off .ensures) ∙ c .if1 .taken))
+    let n = l .before .before in
+    let a = n .before .args in
+    let f : ℕ → Bool = row-off (laid (a .index .now)) (rows-of (a .rows .now)) in
+    sym (l .loop .inv ∙ some-found f (n .rows-of .result) (l .loop .r) (c .before .before .loop-test .taken) (sym (c .before .off .ensures) ∙ c .if1 .taken))
 
 add-r : tie.Need-add-r Inv-loop μ-loop
 add-r c = search needs
@@ -40,19 +53,31 @@ loop-less c = search needs
 loop-again : tie.Need-loop-again Inv-loop μ-loop
 loop-again c =
     let l = c .before .before .before in
-    let a = l .before .args in
-    let f : ℕ → Bool = off-by (a .round) (a .offset .now) (a .sender .now) (a .comes .now) (a .span .now) in
-    l .loop .inv ∙ some-next f (a .rows) (l .loop .r) (c .before .before .loop-test .taken) (sym (c .before .off .ensures) ∙ c .if1 .left)
+    let n = l .before .before in
+    let a = n .before .args in
+    let f : ℕ → Bool = row-off (laid (a .index .now)) (rows-of (a .rows .now)) in
+    l .loop .inv ∙ some-next f (n .rows-of .result) (l .loop .r) (c .before .before .loop-test .taken) (sym (c .before .off .ensures) ∙ c .if1 .left)
 
 returns-2 : tie.Need-returns-2 Inv-loop μ-loop
-unfolding off-slot-by
 returns-2 c =
     let l = c .before in
-    let a = l .before .args in
-    let f : ℕ → Bool = off-by (a .round) (a .offset .now) (a .sender .now) (a .comes .now) (a .span .now) in
-    sym (l .loop .inv ∙ some-none f (a .rows) (l .loop .r) (c .loop-test .left))
+    let n = l .before .before in
+    let a = n .before .args in
+    let f : ℕ → Bool = row-off (laid (a .index .now)) (rows-of (a .rows .now)) in
+    sym (l .loop .inv ∙ some-none f (n .rows-of .result) (l .loop .r) (c .loop-test .left))
 
 pub off-slot-spec : {M : Type 1} → statement M
 off-slot-spec =
     tie.close
-    (tie.spec Inv-loop μ-loop loop-holds off-requires returns add-r loop-less loop-again returns-2)
+    (tie.spec
+    Inv-loop
+    μ-loop
+    rows-of-requires
+    processes-of-requires
+    loop-holds
+    off-requires
+    returns
+    add-r
+    loop-less
+    loop-again
+    returns-2)

@@ -1,37 +1,42 @@
 -- `checker_rules::row_uses_unknown` meets its contract.
 -- Assumes nothing.
+use mathlib.Core.Path.{_∙_}
 use native.Mathlib.Omega.{arith}
 use borrow.Author.Tests.{eq-eqb, ne-eqb}
 use Rattle.log_queries.specs.Reading.{placed-by}
 use Rattle.checker_rows.specs.MetArrays.{start-by}
 use Rattle.checker_rules.specs.Rules.{row-uses-unknown-by}
+use Rattle.checker_rules.proofs.KnownRows.{known-rows}
 use borrow.Author.Needs.{needs}
 use Rattle.checker_rules.proofs.unknown_values.row_uses_unknown.Statement.{statement}
 use Rattle.checker_rules.proofs.unknown_values.row_uses_unknown.Tie as tie
 
-mul-x : tie.Need-mul-x
-mul-x c = search needs
-
-element-copy-out-x : tie.Need-element-copy-out-x
-element-copy-out-x c = search needs
+comes-of-requires : tie.Need-comes-of-requires
+comes-of-requires c κs = search needs
 
 returns : tie.Need-returns
 unfolding row-uses-unknown-by placed-by
-returns c =
-    simp (eq-eqb _ _ (c .if1 .taken))
+returns c = simp (← c .before .comes-of .ensures, eq-eqb _ _ (c .if1 .taken))
 
-mul-u : tie.Need-mul-u
-mul-u c = search needs
-
-element-copy-out-u : tie.Need-element-copy-out-u
-element-copy-out-u c = search needs
+span-of-requires : tie.Need-span-of-requires
+span-of-requires c κs = search needs
 
 sub-u : tie.Need-sub-u
 sub-u c =
     let e = c .before in
-    let s = e .before .before in
-    let l = s .pre .3 .lasts (s .args .r) (e .if1 .left) in
-    omega arith
+    let x = e .before in
+    let s = x .before in
+    let l = s .pre .1 .1 .lasts (s .args .r) (λ q. e .if1 .left (x .comes-of .ensures ∙ q)) in
+    omega (arith, x .comes-of .ensures, c .span-of .ensures .0, l)
+
+conditionrow-of-requires : tie.Need-conditionrow-of-requires
+conditionrow-of-requires c κs = search needs
+
+add-first : tie.Need-add-first
+add-first c = search needs
+
+conditions-of-requires : tie.Need-conditions-of-requires
+conditions-of-requires c κs = search needs
 
 known-requires : tie.Need-known-requires
 known-requires c κs = search needs
@@ -45,19 +50,32 @@ element-copy-out-bits c = search needs
 returns-2 : tie.Need-returns-2
 unfolding row-uses-unknown-by placed-by start-by
 returns-2 c =
-    let d = c .before in
-    simp (ne-eqb _ _ (d .before .before .before .if1 .left), d .known .ensures .0)
+    let k = c .before in
+    let n = k .before in
+    let m = n .before .before in
+    let a = m .before in
+    let e = a .before in
+    let s = e .before .before in
+    simp (
+      ← e .before .comes-of .ensures,
+      ne-eqb _ _ (e .if1 .left),
+      ← a .span-of .ensures .0,
+      ← m .conditionrow-of .ensures .0,
+      ← n .conditions-of .ensures .0,
+      k .known .ensures .0 ∙ known-rows (s .args .rows .now) (m .conditionrow-of .result) (n .conditions-of .result) _ (omega (arith, m .conditionrow-of .ensures .1, n .conditions-of .ensures .1)),
+    )
 
 pub row-uses-unknown-spec : {M : Type 1} → statement M
 row-uses-unknown-spec =
     tie.close
     (tie.spec
-    mul-x
-    element-copy-out-x
+    comes-of-requires
     returns
-    mul-u
-    element-copy-out-u
+    span-of-requires
     sub-u
+    conditionrow-of-requires
+    add-first
+    conditions-of-requires
     known-requires
     mul-bits
     element-copy-out-bits

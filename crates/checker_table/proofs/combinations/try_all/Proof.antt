@@ -6,6 +6,7 @@ use Prim.Native.Nat.{_≤_, _<_, _-_, max, min}
 use native.Mathlib.Omega.{arith}
 use borrow.Author.Needs.{needs}
 use Rattle.lists.proofs.Greatest.{Most, most-start, most-taken, most-whole}
+use Rattle.plan_index.specs.Index.{laid}
 use Rattle.checker_table.specs.declared.verdict.Found.{Found}
 use Rattle.checker_table.specs.Combinations.{found-by, found-all}
 use Rattle.checker_table.proofs.Least.{Fewest, fewest-start, fewest-next, fewest-end}
@@ -13,19 +14,19 @@ use Rattle.checker_table.proofs.combinations.try_all.Statement.{stateme
 use Rattle.checker_table.proofs.combinations.try_all.Tie as tie
 
 abbrev Inv-loop : tie.InvT-loop
-Inv-loop b table combinations first₀ delay₀ c₀ first delay c =
-    (first ≤ 20) × Fewest (λ k. found-by b table k .first) combinations c first
-    × Most (λ k. found-by b table k .delay) (λ k. true) combinations c delay
+Inv-loop index table combinations first₀ delay₀ c₀ first delay c =
+    (first ≤ 20) × Fewest (λ k. found-by (laid index) table k .first) combinations c first
+    × Most (λ k. found-by (laid index) table k .delay) (λ k. true) combinations c delay
 
 abbrev μ-loop : tie.MeasureT-loop
-μ-loop b table combinations first₀ delay₀ c₀ first delay c = combinations - c
+μ-loop index table combinations first₀ delay₀ c₀ first delay c = combinations - c
 
 loop-holds : tie.Need-loop-holds Inv-loop μ-loop
 loop-holds c =
     let a = c .before .args in (
       omega arith,
-      fewest-start (λ k. found-by (a .b) (a .table .now) k .first) (a .combinations),
-      most-start (λ k. found-by (a .b) (a .table .now) k .delay) (λ k. true) (a .combinations),
+      fewest-start (λ k. found-by (laid (a .index .now)) (a .table .now) k .first) (a .combinations),
+      most-start (λ k. found-by (laid (a .index .now)) (a .table .now) k .delay) (λ k. true) (a .combinations),
     )
 
 try-combination-requires : tie.Need-try-combination-requires Inv-loop μ-loop
@@ -57,9 +58,9 @@ loop-again c =
     let u : k < n = omega (arith, t .loop-test .taken) in
     let e = tried .try-combination .ensures in (
       omega (arith, small .lesser .ensures, l .loop .inv .0),
-      fewest-next (λ k. found-by (a .b) (a .table .now) k .first) n k (l .loop .first) u (l .loop .inv .1)
+      fewest-next (λ k. found-by (laid (a .index .now)) (a .table .now) k .first) n k (l .loop .first) u (l .loop .inv .1)
           (small .lesser .ensures ∙ ap (λ (f : Found). min (l .loop .first) (f .first)) e),
-      most-taken (λ k. found-by (a .b) (a .table .now) k .delay) (λ k. true) n k (l .loop .delay) u refl (l .loop .inv .2)
+      most-taken (λ k. found-by (laid (a .index .now)) (a .table .now) k .delay) (λ k. true) n k (l .loop .delay) u refl (l .loop .inv .2)
           (c .greater .ensures ∙ ap (λ (f : Found). max (l .loop .delay) (f .delay)) e),
     )
 
@@ -72,8 +73,8 @@ returns c =
     let n = a .combinations in
     let v : n ≤ l .loop .c = omega (arith, c .loop-test .left) in
     λ i. record {
-      first = fewest-end (λ k. found-by (a .b) (a .table .now) k .first) n (l .loop .c) (l .loop .first) v (h .0) (h .1) i;
-      delay = sym (most-whole (λ k. found-by (a .b) (a .table .now) k .delay) n (l .loop .c) (l .loop .delay) v (h .2)) i;
+      first = fewest-end (λ k. found-by (laid (a .index .now)) (a .table .now) k .first) n (l .loop .c) (l .loop .first) v (h .0) (h .1) i;
+      delay = sym (most-whole (λ k. found-by (laid (a .index .now)) (a .table .now) k .delay) n (l .loop .c) (l .loop .delay) v (h .2)) i;
     }
 
 pub try-all-spec : {M : Type 1} → statement M

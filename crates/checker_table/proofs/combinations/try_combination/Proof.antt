@@ -2,24 +2,45 @@
 -- and the tests on them.
 -- Assumes nothing.
 use mathlib.Core.Path.{sym, ap, subst, _∙_}
-use native.Mathlib.Omega.{arith}
-use lib.ListN.{length}
-use borrow.Author.Needs.{needs}
-use Rattle.checker_rows.specs.declared.met.MetRows.{MetRows}
+use Rattle.plan_index.specs.Index.{laid}
+use Rattle.log_rows.specs.Rows.{Rows, rows-of}
+use Rattle.plan_layout.proofs.Bounds.{bounded}
+use Rattle.checker_rows.proofs.DueMade.{row-order}
 use Rattle.checker_table.specs.FirstRefusal.{Tried}
-use Rattle.checker_table.proofs.Combined.{found-counted, found-14, found-later}
-use Rattle.checker_table.proofs.CombinationOfModel.{table-rowed, met-long, tried}
+use Rattle.checker_table.proofs.Combined.{rows-made, found-counted, found-14, found-later}
+use Rattle.checker_table.proofs.CombinationOfModel.{table-rowed, tried}
+use borrow.Author.Needs.{needs}
 use Rattle.checker_table.proofs.combinations.try_combination.Statement.{statement}
 use Rattle.checker_table.proofs.combinations.try_combination.Tie as tie
 
-met-rows-requires : tie.Need-met-rows-requires
-met-rows-requires c κs =
-    let s = c .before .before .before in
-    let t = s .pre .0 in
-    (t .fives, (table-rowed (s .args .b) (s .args .table .now) t, t .indexed .span-most))
+empty-rows-requires : tie.Need-empty-rows-requires
+empty-rows-requires c κs = search needs
 
 due-rows-requires : tie.Need-due-rows-requires
-due-rows-requires c κs = search needs
+due-rows-requires c κs =
+    let none = c .before in
+    let s = none .before .before in
+    let t = s .pre .0 in
+    let b = laid (s .args .index .now) in
+    (bounded (t .plan) b (t .indexed), row-order (t .plan) b (t .indexed), ap (λ (r : Rows). r .unmet) (none .empty-rows .ensures))
+
+met-rows-requires : tie.Need-met-rows-requires
+met-rows-requires c κs =
+    let due = c .before in
+    let none = due .before .before in
+    let s = none .before .before in
+    let t = s .pre .0 in
+    let b = laid (s .args .index .now) in
+    let e = due .due-rows .ensures .1 in (
+      (t .fives, table-rowed b (s .args .table .now) t, bounded (t .plan) b (t .indexed)),
+      (ap (λ (r : Rows). r .comes) e, ap (λ (r : Rows). r .place) e ∙ ap (λ (r : Rows). r .place) (none .empty-rows .ensures)),
+    )
+
+rows-of-requires : tie.Need-rows-of-requires
+rows-of-requires c κs =
+    let s = c .before .before .before .before .before .before .before .before .before in
+    let t = s .pre .0 in
+    bounded (t .plan) (laid (s .args .index .now)) (t .indexed)
 
 miscounts-requires : tie.Need-miscounts-requires
 miscounts-requires c κs = search needs
@@ -27,64 +48,67 @@ miscounts-requires c κs = search needs
 returns : tie.Need-returns
 returns c =
     let count = c .before in
-    let rows = count .before .before .before .before in
-    let met = rows .before in
-    let s = met .before .before .before .before in
-    found-14 (s .args .b) (s .args .table .now) (s .args .c) (met .met-rows .ensures) (rows .due-rows .ensures) (sym (count .miscounts .ensures) ∙ c .if1 .taken)
-
-active-of-requires : tie.Need-active-of-requires
-active-of-requires c κs = search needs
+    let n = count .before in
+    let met = n .before .before .before .before in
+    let due = met .before .before in
+    let none = due .before .before in
+    let s = none .before .before in
+    let a = s .args in
+    let b = laid (a .index .now) in
+    found-14 b (a .table .now) (a .c) (met .met-rows .ensures .0) (due .due-rows .ensures .0) (n .rows-of .ensures .0) (sym (count .miscounts .ensures) ∙ c .if1 .taken)
 
 first-found-requires : tie.Need-first-found-requires
 first-found-requires c κs =
-    let e = c .before .before in
+    let e = c .before .before .before in
     let count = e .before in
-    let rows = count .before .before .before .before in
-    let met = rows .before in
-    let s = met .before .before .before .before in
-    let b = s .args .b in
-    subst (λ (m : MetRows). Tried b m) (sym (met .met-rows .ensures))
-    (tried b (s .args .table .now) (s .pre .0) (s .args .c) (s .pre .1)
-    (found-counted b (s .args .table .now) (s .args .c) (met .met-rows .ensures) (rows .due-rows .ensures) (sym (count .miscounts .ensures) ∙ e .if1 .left)))
+    let n = count .before in
+    let met = n .before .before .before .before in
+    let due = met .before .before in
+    let none = due .before .before in
+    let s = none .before .before in
+    let a = s .args in
+    let b = laid (a .index .now) in
+    subst (λ (r : Rows). Tried b r) (sym (rows-made b (a .table .now) (a .c) (none .empty-rows .ensures) (due .due-rows .ensures .1) (met .met-rows .ensures .1)))
+    (tried b (a .table .now) (s .pre .0) (a .c) (s .pre .1)
+    (found-counted b (a .table .now) (a .c) (met .met-rows .ensures .0) (due .due-rows .ensures .0) (n .rows-of .ensures .0) (sym (count .miscounts .ensures) ∙ e .if1 .left)))
 
-slice-aggregate-last-end : tie.Need-slice-aggregate-last-end
-slice-aggregate-last-end c =
-    let e = c .before .before .before .before .before in
-    let count = e .before in
-    let rows = count .before .before .before .before in
-    let met = rows .before in
-    let s = met .before .before .before .before in
-    sym (ap (λ (m : MetRows). length (m .comes)) (met .met-rows .ensures)
-    ∙ met-long (s .args .b) (s .args .table .now) (s .pre .0) (s .args .c) (s .pre .1)
-    (found-counted (s .args .b) (s .args .table .now) (s .args .c) (met .met-rows .ensures) (rows .due-rows .ensures) (sym (count .miscounts .ensures) ∙ e .if1 .left)))
+processes-of-requires : tie.Need-processes-of-requires
+processes-of-requires c κs =
+    let n = c .before .before .before .before .before .before .before in
+    let s = n .before .before .before .before .before .before .before .before .before .before in
+    let t = s .pre .0 in
+    bounded (t .plan) (laid (s .args .index .now)) (t .indexed)
 
 last-end-requires : tie.Need-last-end-requires
-last-end-requires c κs =
-    let s = c .before .before .before .before .before .before .before .before .before .before .before .before .before .before .before in
-    omega (arith, slice-aggregate-last-end c, s .pre .0 .indexed .few-processes)
+last-end-requires c κs = search needs
 
 returns-2 : tie.Need-returns-2
 returns-2 c =
-    let first = c .before .before .before in
-    let active = first .before in
-    let e = active .before .before in
+    let p = c .before in
+    let first = p .before .before in
+    let e = first .before .before .before .before in
     let count = e .before in
-    let rows = count .before .before .before .before in
-    let met = rows .before in
-    let s = met .before .before .before .before in
-    found-later (s .args .b) (s .args .table .now) (s .args .c) (met .met-rows .ensures) (rows .due-rows .ensures) (sym (count .miscounts .ensures) ∙ e .if1 .left)
-    (active .active-of .ensures) (first .first-found .ensures) (c .last-end .ensures)
+    let n = count .before in
+    let met = n .before .before .before .before in
+    let due = met .before .before in
+    let none = due .before .before in
+    let s = none .before .before in
+    let a = s .args in
+    let b = laid (a .index .now) in
+    found-later b (a .table .now) (a .c) (met .met-rows .ensures .0) (due .due-rows .ensures .0) (n .rows-of .ensures .0) (sym (count .miscounts .ensures) ∙ e .if1 .left)
+    (rows-made b (a .table .now) (a .c) (none .empty-rows .ensures) (due .due-rows .ensures .1) (met .met-rows .ensures .1)) (p .processes-of .ensures .0) (first .first-found .ensures) (c .last-end .ensures)
 
 pub try-combination-spec : {M : Type 1} → statement M
 try-combination-spec =
     tie.close
     (tie.spec
-    met-rows-requires
+    empty-rows-requires
     due-rows-requires
+    met-rows-requires
+    rows-of-requires
     miscounts-requires
     returns
-    active-of-requires
     first-found-requires
-    slice-aggregate-last-end
+    processes-of-requires
     last-end-requires
     returns-2)

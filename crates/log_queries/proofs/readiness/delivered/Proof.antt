@@ -6,20 +6,17 @@ use borrow.Author.Needs.{needs}
 use Rattle.log_queries.proofs.readiness.delivered.Statement.{statement}
 use Rattle.log_queries.proofs.readiness.delivered.Tie as tie
 
-mul-if1 : tie.Need-mul-if1
-mul-if1 c = search needs
+remote-of-requires : tie.Need-remote-of-requires
+remote-of-requires c κs = search needs
 
-element-copy-out-if1 : tie.Need-element-copy-out-if1
-element-copy-out-if1 c = search needs
+processes-of-requires : tie.Need-processes-of-requires
+processes-of-requires c κs = search needs
 
-add-came : tie.Need-add-came
-add-came c = search needs
+add-comes-of : tie.Need-add-comes-of
+add-comes-of c = search needs
 
-mul-came : tie.Need-mul-came
-mul-came c = search needs
-
-element-copy-out-came : tie.Need-element-copy-out-came
-element-copy-out-came c = search needs
+comes-of-requires : tie.Need-comes-of-requires
+comes-of-requires c κs = search needs
 
 came-requires : tie.Need-came-requires
 came-requires c κs = search needs
@@ -27,7 +24,10 @@ came-requires c κs = search needs
 returns : tie.Need-returns
 unfolding delivered-by came-by
 returns c =
-    simp (ne-eqb _ _ (c .before .before .if1 .taken)) (c .came .ensures)
+    let v = c .before in
+    let p = v .before in
+    let i = p .before in
+    simp (← i .before .remote-of .ensures .0, ne-eqb _ _ (i .if1 .taken), ← p .processes-of .ensures .0, ← v .comes-of .ensures) (c .came .ensures)
 
 message-ready-requires : tie.Need-message-ready-requires
 message-ready-requires c κs = search needs
@@ -35,17 +35,17 @@ message-ready-requires c κs = search needs
 returns-2 : tie.Need-returns-2
 unfolding delivered-by
 returns-2 c =
-    simp (eq-eqb _ _ (c .before .if1 .left)) (c .message-ready .ensures)
+    let i = c .before in
+    simp (← i .before .remote-of .ensures .0, eq-eqb _ _ (i .if1 .left)) (c .message-ready .ensures)
 
 pub delivered-spec : {M : Type 1} → statement M
 delivered-spec =
     tie.close
     (tie.spec
-    mul-if1
-    element-copy-out-if1
-    add-came
-    mul-came
-    element-copy-out-came
+    remote-of-requires
+    processes-of-requires
+    add-comes-of
+    comes-of-requires
     came-requires
     returns
     message-ready-requires

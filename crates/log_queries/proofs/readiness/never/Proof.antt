@@ -6,51 +6,33 @@ use borrow.Author.Needs.{needs}
 use Rattle.log_queries.proofs.readiness.never.Statement.{statement}
 use Rattle.log_queries.proofs.readiness.never.Tie as tie
 
-mul-if1 : tie.Need-mul-if1
-mul-if1 c = search needs
+from-of-requires : tie.Need-from-of-requires
+from-of-requires c κs = search needs
 
-element-copy-out-if1 : tie.Need-element-copy-out-if1
-element-copy-out-if1 c = search needs
-
-cast-if1 : tie.Need-cast-if1
-cast-if1 c = search needs
-
-mul-if1-2 : tie.Need-mul-if1-2
-mul-if1-2 c = search needs
-
-element-copy-out-if1-2 : tie.Need-element-copy-out-if1-2
-element-copy-out-if1-2 c = search needs
+run-of-requires : tie.Need-run-of-requires
+run-of-requires c κs = search needs
 
 returns : tie.Need-returns
 unfolding never-by
 returns c =
-    simp (eq-eqb _ _ (c .if1 .taken))
+    simp (← c .before .before .from-of .ensures .0, ← c .before .run-of .ensures, eq-eqb _ _ (c .if1 .taken))
 
-mul-if2 : tie.Need-mul-if2
-mul-if2 c = search needs
-
-element-copy-out-if2 : tie.Need-element-copy-out-if2
-element-copy-out-if2 c = search needs
+unmet-of-requires : tie.Need-unmet-of-requires
+unmet-of-requires c κs = search needs
 
 returns-2 : tie.Need-returns-2
 unfolding never-by
 returns-2 c =
-    simp (ne-eqb _ _ (c .before .before .if1 .left), eq-eqb _ _ (c .if2 .taken))
+    let t = c .before in
+    let i = t .before in
+    let r = i .before in
+    simp (← r .before .from-of .ensures .0, ← r .run-of .ensures, ne-eqb _ _ (i .if1 .left), ← t .unmet-of .ensures, eq-eqb _ _ (c .if2 .taken))
 
-mul-came : tie.Need-mul-came
-mul-came c = search needs
+knownby-of-requires : tie.Need-knownby-of-requires
+knownby-of-requires c κs = search needs
 
-element-copy-out-came : tie.Need-element-copy-out-came
-element-copy-out-came c = search needs
-
-cast-came : tie.Need-cast-came
-cast-came c = search needs
-
-mul-came-2 : tie.Need-mul-came-2
-mul-came-2 c = search needs
-
-element-copy-out-came-2 : tie.Need-element-copy-out-came-2
-element-copy-out-came-2 c = search needs
+comes-of-requires : tie.Need-comes-of-requires
+comes-of-requires c κs = search needs
 
 came-requires : tie.Need-came-requires
 came-requires c κs = search needs
@@ -58,26 +40,24 @@ came-requires c κs = search needs
 returns-3 : tie.Need-returns-3
 unfolding never-by came-by
 returns-3 c =
-    let d = c .before .before .before in
-    simp (ne-eqb _ _ (d .before .before .if1 .left), ne-eqb _ _ (d .if2 .left)) (c .came .ensures)
+    let v = c .before in
+    let g = v .before in
+    let j = g .before in
+    let t = j .before in
+    let i = t .before in
+    let r = i .before in
+    simp (← r .before .from-of .ensures .0, ← r .run-of .ensures, ne-eqb _ _ (i .if1 .left), ← t .unmet-of .ensures, ne-eqb _ _ (j .if2 .left), ← g .knownby-of .ensures .0, ← v .comes-of .ensures) (c .came .ensures)
 
 pub never-spec : {M : Type 1} → statement M
 never-spec =
     tie.close
     (tie.spec
-    mul-if1
-    element-copy-out-if1
-    cast-if1
-    mul-if1-2
-    element-copy-out-if1-2
+    from-of-requires
+    run-of-requires
     returns
-    mul-if2
-    element-copy-out-if2
+    unmet-of-requires
     returns-2
-    mul-came
-    element-copy-out-came
-    cast-came
-    mul-came-2
-    element-copy-out-came-2
+    knownby-of-requires
+    comes-of-requires
     came-requires
     returns-3)

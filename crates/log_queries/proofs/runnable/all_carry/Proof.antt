@@ -1,51 +1,45 @@
 -- `log_queries::all_carry` meets its contract: the edges from place j on give the whole answer.
 -- Assumes nothing.
 use mathlib.Core.Path.{_≡_, refl, sym, ap, _∙_}
-use Prim.Native.Nat.{_-_}
-use native.Mathlib.Omega.{arith}
-use lib.ListN.{getD}
 use mathlib.Core.Bool.{not}
+use Prim.Native.Nat.{_-_}
 use Rattle.lists.specs.Lists.{all}
-use Rattle.log_queries.specs.Reading.{part, carries-by}
+use Rattle.plan_index.specs.Index.{laid}
+use Rattle.log_rows.specs.Rows.{rows-of}
+use Rattle.log_queries.specs.Reading.{carries-by}
+use Rattle.log_queries.specs.Queries.{edges-at, may-carry}
 use Rattle.log_queries.proofs.ArrayParts.{part-end, all-pass, all-fail}
 use borrow.Author.Needs.{needs}
 use Rattle.log_queries.proofs.runnable.all_carry.Statement.{statement}
 use Rattle.log_queries.proofs.runnable.all_carry.Tie as tie
 
 abbrev Inv-loop : tie.InvT-loop
-Inv-loop from knownby unmet comes run into a b u j₀ j =
-    all (carries-by from knownby unmet comes u run) (part into a b) ≡ all (carries-by from knownby unmet comes u run) (part into j b)
+Inv-loop index rows a b u j₀ j =
+    all (may-carry (laid index) (rows-of rows) u) (edges-at (laid index) a b) ≡ all (may-carry (laid index) (rows-of rows) u) (edges-at (laid index) j b)
 
 abbrev μ-loop : tie.MeasureT-loop
-μ-loop from knownby unmet comes run into a b u j₀ j = b - j
+μ-loop index rows a b u j₀ j = b - j
 
 loop-holds : tie.Need-loop-holds Inv-loop μ-loop
 loop-holds c =
     refl
 
-mul-e : tie.Need-mul-e Inv-loop μ-loop
-mul-e c = search needs
-
-element-copy-out-e : tie.Need-element-copy-out-e Inv-loop μ-loop
-element-copy-out-e c = search needs
-
-cast-e : tie.Need-cast-e Inv-loop μ-loop
-cast-e c =
-    let l = c .before .before in
-    omega (arith, l .before .pre .1 .edges (l .loop .j))
+into-of-requires : tie.Need-into-of-requires Inv-loop μ-loop
+into-of-requires c κs = search needs
 
 never-requires : tie.Need-never-requires Inv-loop μ-loop
-never-requires c κs =
-    let s = c .before .before .before .pre .1 in
-    let e = getD (c .before .before .before .args .into .now) (c .before .before .loop .j) 0 in
-    (s .edges (c .before .before .loop .j), s .senders e, s .known-rows e)
+never-requires c κs = search needs
 
 returns : tie.Need-returns Inv-loop μ-loop
 unfolding carries-by
 returns c =
-    let l = c .before .before .before .before in
+    let f = c .before .before in
+    let l = f .before .before in
     let a = l .before .args in
-    sym (l .loop .inv ∙ all-fail (a .into .now) (l .loop .j) (a .b) (c .before .before .before .loop-test .taken) (carries-by (a .from .now) (a .knownby .now) (a .unmet .now) (a .comes .now) (a .u) (a .run .now)) (ap not (sym (c .before .never .ensures) ∙ c .if1 .taken)))
+    let b = laid (a .index .now) in
+    let test = may-carry b (rows-of (a .rows .now)) (a .u) in
+    sym (l .loop .inv
+    ∙ all-fail (b .into) (l .loop .j) (a .b) (f .before .loop-test .taken) test (ap test (sym (f .into-of .ensures .0)) ∙ ap not (sym (c .before .never .ensures) ∙ c .if1 .taken)))
 
 add-j : tie.Need-add-j Inv-loop μ-loop
 add-j c = search needs
@@ -56,15 +50,20 @@ loop-less c = search needs
 loop-again : tie.Need-loop-again Inv-loop μ-loop
 unfolding carries-by
 loop-again c =
-    let l = c .before .before .before .before in
+    let f = c .before .before in
+    let l = f .before .before in
     let a = l .before .args in
-    l .loop .inv ∙ all-pass (a .into .now) (l .loop .j) (a .b) (c .before .before .before .loop-test .taken) (carries-by (a .from .now) (a .knownby .now) (a .unmet .now) (a .comes .now) (a .u) (a .run .now)) (ap not (sym (c .before .never .ensures) ∙ c .if1 .left))
+    let b = laid (a .index .now) in
+    let test = may-carry b (rows-of (a .rows .now)) (a .u) in
+    l .loop .inv
+    ∙ all-pass (b .into) (l .loop .j) (a .b) (f .before .loop-test .taken) test (ap test (sym (f .into-of .ensures .0)) ∙ ap not (sym (c .before .never .ensures) ∙ c .if1 .left))
 
 returns-2 : tie.Need-returns-2 Inv-loop μ-loop
 returns-2 c =
     let l = c .before in
     let a = l .before .args in
-    sym (l .loop .inv ∙ ap (all (carries-by (a .from .now) (a .knownby .now) (a .unmet .now) (a .comes .now) (a .u) (a .run .now))) (part-end (a .into .now) (l .loop .j) (a .b) (c .loop-test .left)))
+    let b = laid (a .index .now) in
+    sym (l .loop .inv ∙ ap (all (may-carry b (rows-of (a .rows .now)) (a .u))) (part-end (b .into) (l .loop .j) (a .b) (c .loop-test .left)))
 
 pub all-carry-spec : {M : Type 1} → statement M
 all-carry-spec =
@@ -73,9 +72,7 @@ all-carry-spec =
     Inv-loop
     μ-loop
     loop-holds
-    mul-e
-    element-copy-out-e
-    cast-e
+    into-of-requires
     never-requires
     returns
     add-j

@@ -1,48 +1,65 @@
 -- `log_queries::may_run` meets its contract: before turn i the array says of the first i processes whether they may
 -- run.
 -- Assumes nothing.
-use mathlib.Core.Path.{_≡_, refl, ap, _∙_}
+use mathlib.Core.Path.{_≡_, sym, ap, _∙_}
 use mathlib.Core.Bool.{Bool}
 use mathlib.Core.List.{List}
 use Prim.Native.Nat.{ℕ, _+_, _-_, _≤_}
 use native.Mathlib.Numerals.{add-one}
 use native.Mathlib.Omega.{arith}
-use lib.ListN.{set}
-use Rattle.log_queries.specs.Reading.{bit, runs-by, may-run-by}
+use lib.ListN.{replicate}
+use Rattle.plan_index.specs.declared.PlanIndex.{PlanIndex}
+use Rattle.plan_index.specs.Index.{laid}
+use Rattle.log_rows.specs.Rows.{Rows, rows-of, with-run, put-run}
+use Rattle.log_queries.specs.Reading.{bit, may-run-by}
+use Rattle.log_queries.specs.Queries.{may-run-in, running}
 use borrow.Author.Needs.{needs}
 use Rattle.log_queries.proofs.runnable.may_run.Statement.{statement}
 use Rattle.log_queries.proofs.runnable.may_run.Tie as tie
 
-next : (from knownby unmet comes : List ℕ) (u : ℕ) (asany first into : List ℕ) (i : ℕ) {v : ℕ} {b : Bool} {run : List ℕ} →
-    run ≡ may-run-by from knownby unmet comes u asany first into i → v ≡ bit b → b ≡ runs-by from knownby unmet comes u asany first into run i →
-    set run i v ≡ may-run-by from knownby unmet comes u asany first into (i + 1)
-unfolding may-run-by
-next from knownby unmet comes u asany first into i e q r = rw (add-one, q, r, e)
+-- which of the first n processes may run
+abbrev runnable : PlanIndex → Rows → ℕ → ℕ → List ℕ
+runnable b s u = may-run-by (b .from) (b .knownby) (s .unmet) (s .comes) u (b .asany) (b .intofirst) (b .into)
+
+module _ (b : PlanIndex) (u : ℕ) where
+  first : (s : Rows) {z : Rows} → z ≡ with-run (replicate 64 0) s → z ≡ with-run (runnable b z u 0) z
+  unfolding may-run-by
+  first s e = e ∙ sym (ap (λ (r : Rows). with-run (replicate 64 0) r) e)
+
+  next : (z : Rows) (i : ℕ) {v : ℕ} {x : Bool} {r : Rows} →
+      r ≡ with-run (runnable b z u i) z → v ≡ bit x → x ≡ may-run-in b r u i → put-run i v r ≡ with-run (runnable b z u (i + 1)) z
+  unfolding may-run-by
+  next z i e q y = rw (add-one, q, y, e)
+
+  whole : (z s : Rows) {n : ℕ} {r : Rows} → r ≡ with-run (runnable b z u n) z → z ≡ with-run (replicate 64 0) s → n ≡ b .processes → r ≡ with-run (running b s u) s
+  whole z s e q y = e ∙ ap (λ (k : ℕ). with-run (runnable b z u k) z) y ∙ ap (λ (x : Rows). with-run (running b x u) x) q
 
 abbrev Inv-loop : tie.InvT-loop
-Inv-loop processes from knownby unmet comes any first into u run₀ i₀ run i = (i ≤ processes) × (run ≡ may-run-by from knownby unmet comes u any first into i)
+Inv-loop index u rows₀ processes i₀ rows i =
+    (i ≤ processes) × (rows-of rows ≡ with-run (runnable (laid index) (rows-of rows₀) u i) (rows-of rows₀))
 
 abbrev μ-loop : tie.MeasureT-loop
-μ-loop processes from knownby unmet comes any first into u run₀ i₀ run i = processes - i
+μ-loop index u rows₀ processes i₀ rows i = processes - i
+
+clear-run-requires : tie.Need-clear-run-requires Inv-loop μ-loop
+clear-run-requires c κs = search needs
+
+processes-of-requires : tie.Need-processes-of-requires Inv-loop μ-loop
+processes-of-requires c κs = search needs
 
 loop-holds : tie.Need-loop-holds Inv-loop μ-loop
-unfolding may-run-by
 loop-holds c =
-    (search needs, refl)
+    let s = c .before .before .before .args in
+    (omega arith, first (laid (s .index .now)) (s .u) (rows-of (s .rows .now)) (c .before .clear-run .ensures))
 
 runs-requires : tie.Need-runs-requires Inv-loop μ-loop
-runs-requires c κs =
-    let s = c .before .before .before .pre in
-    (omega arith, s .1, s .2)
+runs-requires c κs = search needs
 
 number-requires : tie.Need-number-requires Inv-loop μ-loop
 number-requires c κs = search needs
 
-mul-run : tie.Need-mul-run Inv-loop μ-loop
-mul-run c = search needs
-
-array-write-run : tie.Need-array-write-run Inv-loop μ-loop
-array-write-run c = search needs
+put-run-requires : tie.Need-put-run-requires Inv-loop μ-loop
+put-run-requires c κs = search needs
 
 add-i : tie.Need-add-i Inv-loop μ-loop
 add-i c = search needs
@@ -52,16 +69,21 @@ loop-less c = search needs
 
 loop-again : tie.Need-loop-again Inv-loop μ-loop
 loop-again c =
-    let l = c .before .before .before .before in
-    let a = l .before .args in
-    (omega arith, next (a .from .now) (a .knownby .now) (a .unmet .now) (a .comes .now) (a .u) (a .any .now) (a .first .now) (a .into .now) (l .loop .i) (l .loop .inv .1) (c .number .ensures .0) (c .before .runs .ensures))
+    let w = c .before in
+    let n = w .before in
+    let r = n .before in
+    let l = r .before .before .before in
+    let s = l .before .before .before .before .args in
+    let z = rows-of (l .before .before .clear-run .last .0) in
+    (omega arith, c .put-run .ensures ∙ next (laid (s .index .now)) (s .u) z (l .loop .i) (l .loop .inv .1) (n .number .ensures .0) (r .runs .ensures))
 
 returns : tie.Need-returns Inv-loop μ-loop
 returns c =
     let l = c .before in
-    let a = l .before .args in
-    let q : l .loop .i ≡ a .processes = omega arith in
-    l .loop .inv .1 ∙ ap (may-run-by (a .from .now) (a .knownby .now) (a .unmet .now) (a .comes .now) (a .u) (a .any .now) (a .first .now) (a .into .now)) q
+    let p = l .before in
+    let s = p .before .before .before .args in
+    let q : l .loop .i ≡ p .processes-of .result = omega arith in
+    whole (laid (s .index .now)) (s .u) (rows-of (p .before .clear-run .last .0)) (rows-of (s .rows .now)) (l .loop .inv .1) (p .before .clear-run .ensures) (q ∙ p .processes-of .ensures .0)
 
 pub may-run-spec : {M : Type 1} → statement M
 may-run-spec =
@@ -69,11 +91,12 @@ may-run-spec =
     (tie.spec
     Inv-loop
     μ-loop
+    clear-run-requires
+    processes-of-requires
     loop-holds
     runs-requires
     number-requires
-    mul-run
-    array-write-run
+    put-run-requires
     add-i
     loop-less
     loop-again

@@ -5,7 +5,6 @@ use mathlib.Core.Path.{_∙_, sym}
 use native.Mathlib.Omega.{arith}
 use borrow.Author.Tests.{eq-eqb, ne-eqb}
 use borrow.Author.Needs.{needs}
-use Rattle.log_queries.specs.Hearing.{heard-by}
 use Rattle.log_queries.proofs.runnable.update_may_run.Statement.{statement}
 use Rattle.log_queries.proofs.runnable.update_may_run.Tie as tie
 
@@ -13,13 +12,11 @@ may-run-requires : tie.Need-may-run-requires
 may-run-requires c κs = search needs
 
 returns : tie.Need-returns
-unfolding heard-by
 returns c =
-    let a = c .before .before .args in
-    c .may-run .ensures ∙ sym (rw (eq-eqb (a .broadcastend) (a .u) (omega (arith, c .before .if1 .taken))))
+    let a = c .before .before .before .args in
+    c .may-run .ensures ∙ sym (rw (eq-eqb (a .broadcastend) (a .u) (omega (arith, c .before .before .if1 .taken))))
 
 returns-2 : tie.Need-returns-2
-unfolding heard-by
 returns-2 c =
     let a = c .before .args in
     rw (ne-eqb (a .broadcastend) (a .u) (λ q. absurd (omega (arith, c .if1 .left, q))))

@@ -1,64 +1,54 @@
 -- `planner_combination::event` meets its contract: its steps are those of the next event, by what is kept from event to
 -- event.
 -- Assumes nothing.
+use mathlib.Core.Path.{_∙_}
+use Prim.Native.Nat.{ℕ}
+use Rattle.plan_index.specs.declared.PlanIndex.{PlanIndex}
+use Rattle.plan_index.specs.Index.{laid}
+use Rattle.log_rows.specs.Rows.{rows-of}
+use Rattle.planner_nodes.specs.Nodes.{nodes-of}
+use Rattle.planner_sends.specs.Clocks.{sending-node-by, ends-now}
+use Rattle.planner_combination.proofs.EventSteps.{timed, updatable, nothing-starts, sendable, event-done}
 use borrow.Author.Needs.{needs}
-use Rattle.plan_index.specs.declared.index.PlanIndex.{PlanIndex}
-use Rattle.planner_combination.specs.Events.{Moment, moment, hears, begins-with, sends-slot, waiting, messages, notes, index-of}
-use Rattle.planner_combination.proofs.Keeping.{not-looked, nothing-new, node-low}
-use Rattle.planner_combination.proofs.WholeEvent.{roomy-now, waits-now, remote-now, event-whole}
 use Rattle.planner_combination.proofs.event.event.Statement.{statement}
 use Rattle.planner_combination.proofs.event.event.Tie as tie
 
--- the plan index and the moment
-abbrev planindex : tie.Start → PlanIndex
-planindex c =
-    let a = c .args in
-    index-of (a .processes) (a .conditionrow) (a .conditions) (a .slots) (a .node .now) (a .ticks .now) (a .asany .now) (a .from .now) (a .knownby .now) (a .remote .now) (a .bytes .now) (a .decider .now) (a .intofirst .now) (a .into .now) (a .dispatchfirst .now) (a .dispatch .now) (a .queuefirst .now) (a .queue .now) (a .round) (a .offset .now) (a .lasts .now) (a .rooms .now)
-
-abbrev at : tie.Start → Moment
-at c =
-    let a = c .args in
-    moment (a .u) (a .come) (a .slotend) (a .broadcastend) (a .run .now) (a .busy .now) (a .comes .now) (a .place .now) (a .passed .now) (a .noted .now)
-
 -- the way back from each step to the one before
 abbrev of-note : tie.After-note → tie.Start
-of-note c = c .before .before .before .before
+of-note c = c .before .before .before
 
-abbrev of-update-may-run : tie.After-update-may-run → tie.After-note
-of-update-may-run c = c .before .before .before
+abbrev of-heard : tie.After-update-may-run → tie.After-note
+of-heard c = c .before .before
 
 abbrev of-changes : tie.After-changes → tie.After-update-may-run
 of-changes c = c .before
 
 abbrev of-new : tie.After-new-nodes → tie.After-changes
-of-new c = c .before .before .before
+of-new c = c .before .before
 
-abbrev of-update : tie.After-update-next-sends → tie.After-new-nodes
-of-update c = c .before .before .before .before .before .before
+abbrev of-updated : tie.After-update-next-sends → tie.After-new-nodes
+of-updated c = c .before .before .before
 
-abbrev of-begin : tie.After-begin → tie.After-update-next-sends
-of-begin c = c .before .before .before .before
+abbrev of-begun : tie.After-begin → tie.After-update-next-sends
+of-begun c = c .before .before .before
 
-abbrev of-sending-node : tie.After-sending-node → tie.After-begin
-of-sending-node c = c .before .before
+abbrev of-sending : tie.After-sending-node → tie.After-slots-of
+of-sending c = c .before .before
 
-abbrev of-send-slot : tie.After-send-slot → tie.After-sending-node
-of-send-slot c = c .before .before .before .before .before .before .before .before
+abbrev of-sent : tie.After-send-slot → tie.After-sending-node
+of-sent c = c .before .before .before
 
-abbrev of-ends : tie.After-ends-after → tie.After-send-slot
-of-ends c = c .before .before
+abbrev of-ended : tie.After-ends-after → tie.After-send-slot
+of-ended c = c .before .before
 
 note-requires : tie.Need-note-requires
-unfolding index-of
 note-requires c κs =
-    let f = c .before .before .before .pre .0 in
-    (f .few-rows, f .few-conditions)
+    let s = c .before .before in
+    (s .pre .0 .bounded, s .pre .1 .counts-long)
 
 update-may-run-requires : tie.Need-update-may-run-requires
-unfolding index-of
 update-may-run-requires c κs =
-    let f = of-note (c .before .before) .pre .0 in
-    (f .few-processes, f .into-firsts, f .within-into)
+    of-note (c .before) .pre .0 .bounded
 
 changes-requires : tie.Need-changes-requires
 changes-requires c κs = search needs
@@ -67,45 +57,53 @@ new-nodes-requires : tie.Need-new-nodes-requires
 new-nodes-requires c κs = search needs
 
 update-next-sends-requires : tie.Need-update-next-sends-requires
-unfolding index-of
 update-next-sends-requires c κs =
-    let y = c .before .before .before .before .before in
-    let s = of-note (of-update-may-run (of-changes (of-new y))) in
-    let a = s .args in
-    let f = s .pre .0 in
-    (f .few-slots, f .few-processes, f .few-rows, f .few-conditions, f .deciders, f .within-queue, f .queue-firsts, f .round-one, f .round-most, f .offset-most, s .pre .1 .from-one, s .pre .2, y .new-nodes .ensures .0, not-looked (planindex s) f (a .unmet .now) (at s) (a .lastarrival .now) (a .nextsend .now) (s .pre .1) _ (y .new-nodes .ensures .1), f .queue-rising, s .pre .6 .roomy)
-
-begin-requires : tie.Need-begin-requires
-unfolding index-of hears
-begin-requires c κs =
-    let y = of-update (c .before .before .before) in
-    let h = of-changes (of-new y) in
-    let s = of-note (of-update-may-run h) in
-    let a = s .args in
-    let f = s .pre .0 in
-    (f .few-slots, f .few-processes, f .into-firsts, f .within-into, f .dispatch-firsts, f .dispatch-members, s .pre .2, f .ticks-small, y .new-nodes .ensures .0, nothing-new (planindex s) f (a .unmet .now) (at s) (a .lastarrival .now) (a .nextsend .now) (s .pre .1) _ (h .update-may-run .ensures) _ (y .new-nodes .ensures .1))
-
-sending-node-requires : tie.Need-sending-node-requires
-unfolding index-of
-sending-node-requires c κs = of-note (of-update-may-run (of-changes (of-new (of-update (of-begin (c .before)))))) .pre .0 .few-slots
-
-send-slot-requires : tie.Need-send-slot-requires
-unfolding index-of hears begins-with waiting messages
-send-slot-requires c κs =
-    let v = c .before .before .before .before .before .before .before in
-    let d = of-begin (of-sending-node v) in
-    let y = of-update d in
+    let y = c .before .before in
     let x = of-new y in
     let h = of-changes x in
-    let s = of-note (of-update-may-run h) in
+    let w = of-heard h in
+    let s = of-note w in
     let a = s .args in
-    let f = s .pre .0 in
-    let w = waits-now (planindex s) f (a .unmet .now) (at s) (a .lastarrival .now) (a .nextsend .now) (s .pre .1) _ (y .new-nodes .ensures .1) _ (s .pre .5) _ (x .changes .ensures) (a .wait .now) (a .waitend .now) (s .pre .6) _ _ (d .update-next-sends .ensures .1) _ (d .update-next-sends .ensures .0) (s .pre .2) _ (v .sending-node .ensures) in
-    (f .few-processes, f .few-rows, f .few-conditions, f .few-slots, node-low (planindex s) f (a .unmet .now) (at s) (a .lastarrival .now) (a .nextsend .now) (s .pre .1) _ (y .new-nodes .ensures .1) _ (s .pre .5) _ (x .changes .ensures) _ (d .update-next-sends .ensures .0) (s .pre .2) _ (v .sending-node .ensures), f .deciders, f .queue-firsts, f .round-one, f .round-most, f .offset-most, s .pre .2, f .lasts-small, s .pre .3, remote-now (planindex s) f (a .unmet .now) (at s) (a .lastarrival .now) (a .nextsend .now) (s .pre .1) _ (y .new-nodes .ensures .1) _ (s .pre .5) _ (x .changes .ensures) (a .wait .now) (a .waitend .now) (s .pre .6) _ _ (d .update-next-sends .ensures .1) _ (d .update-next-sends .ensures .0) (s .pre .2) _ (v .sending-node .ensures), f .remote-most, λ l. w _ l .begins, λ l. w _ l .ends, roomy-now (planindex s) f (a .unmet .now) (at s) (a .lastarrival .now) (a .nextsend .now) (s .pre .1) _ (y .new-nodes .ensures .1) _ (s .pre .5) _ (x .changes .ensures) (a .wait .now) (a .waitend .now) (s .pre .6) _ _ (d .update-next-sends .ensures .1) _ (d .update-next-sends .ensures .0) (s .pre .2) _ (v .sending-node .ensures))
+    let b : PlanIndex = laid (a .index .now) in
+    (s .pre .1 .kept .from-one, s .pre .1 .low, s .pre .0 .bounded, timed b (s .pre .0), updatable b (s .pre .0) (a .at) (rows-of (a .rows .now)) (nodes-of (a .nodes .now)) (s .pre .1) _ (w .note .ensures) _ (h .update-may-run .ensures) _ (x .changes .ensures) _ (y .new-nodes .ensures .0) (y .new-nodes .ensures .1))
+
+begin-requires : tie.Need-begin-requires
+begin-requires c κs =
+    let d = c .before .before in
+    let y = of-updated d in
+    let x = of-new y in
+    let h = of-changes x in
+    let w = of-heard h in
+    let s = of-note w in
+    let a = s .args in
+    let b : PlanIndex = laid (a .index .now) in
+    (s .pre .0 .bounded, s .pre .1 .low, y .new-nodes .ensures .0, nothing-starts b (s .pre .0) (a .at) (rows-of (a .rows .now)) (nodes-of (a .nodes .now)) (s .pre .1) _ (w .note .ensures) _ (h .update-may-run .ensures) _ (x .changes .ensures) _ (y .new-nodes .ensures .0) (y .new-nodes .ensures .1) _ (d .update-next-sends .ensures))
+
+slots-of-requires : tie.Need-slots-of-requires
+slots-of-requires c κs =
+    of-note (of-heard (of-changes (of-new (of-updated (of-begun c))))) .pre .0 .bounded
+
+sending-node-requires : tie.Need-sending-node-requires
+sending-node-requires c κs = search needs
+
+send-slot-requires : tie.Need-send-slot-requires
+send-slot-requires c κs =
+    let v = c .before .before in
+    let z = of-sending v in
+    let g = z .before in
+    let d = of-begun g in
+    let y = of-updated d in
+    let x = of-new y in
+    let h = of-changes x in
+    let w = of-heard h in
+    let s = of-note w in
+    let a = s .args in
+    let b : PlanIndex = laid (a .index .now) in
+    let n = v .sending-node .ensures ∙ (λ i. sending-node-by (nodes-of (g .begin .last .1 .1 .1 .1 .1 .0) .nextsend) (a .at .u) (z .slots-of .ensures .0 i)) in
+    (s .pre .1 .low, s .pre .0 .bounded, timed b (s .pre .0), sendable b (s .pre .0) (a .at) (rows-of (a .rows .now)) (nodes-of (a .nodes .now)) (s .pre .1) _ (w .note .ensures) _ (h .update-may-run .ensures) _ (x .changes .ensures) _ (y .new-nodes .ensures .0) (y .new-nodes .ensures .1) _ (d .update-next-sends .ensures) _ _ _ (g .begin .ensures) _ n)
 
 ends-after-requires : tie.Need-ends-after-requires
-unfolding index-of
-ends-after-requires c κs = of-note (of-update-may-run (of-changes (of-new (of-update (of-begin (of-sending-node (of-send-slot (c .before)))))))) .pre .0 .few-slots
+ends-after-requires c κs = search needs
 
 sooner-requires : tie.Need-sooner-requires
 sooner-requires c κs = search needs
@@ -114,22 +112,24 @@ next-event-requires : tie.Need-next-event-requires
 next-event-requires c κs = search needs
 
 returns : tie.Need-returns
-unfolding index-of hears begins-with sends-slot waiting messages notes
 returns c =
     let o = c .before .before in
     let q = o .before in
-    let t = of-ends q in
-    let v = of-send-slot t in
-    let g = of-sending-node v in
-    let d = of-begin g in
-    let y = of-update d in
+    let t = of-ended q in
+    let v = of-sent t in
+    let z = of-sending v in
+    let g = z .before in
+    let d = of-begun g in
+    let y = of-updated d in
     let x = of-new y in
     let h = of-changes x in
-    let w = of-update-may-run h in
+    let w = of-heard h in
     let s = of-note w in
     let a = s .args in
-    let f = s .pre .0 in
-    event-whole (planindex s) f (a .unmet .now) (at s) (a .lastarrival .now) (a .nextsend .now) (s .pre .1) _ (y .new-nodes .ensures .1) _ (s .pre .5) _ (x .changes .ensures) (a .wait .now) (a .waitend .now) (s .pre .6) _ _ (d .update-next-sends .ensures .1) _ (d .update-next-sends .ensures .0) (s .pre .2) _ (v .sending-node .ensures) _ (h .update-may-run .ensures) _ _ (g .begin .ensures .0) (g .begin .ensures .1 .0) _ _ _ _ _ (t .send-slot .ensures .0) _ _ _ _ (t .send-slot .ensures .1 .0) (t .send-slot .ensures .1 .1 .0) (t .send-slot .ensures .1 .1 .1) _ (g .begin .ensures .1 .1) _ _ _ (q .ends-after .ensures) (o .sooner .ensures) (c .next-event .ensures) _ (w .note .ensures)
+    let b : PlanIndex = laid (a .index .now) in
+    let n = v .sending-node .ensures ∙ (λ i. sending-node-by (nodes-of (g .begin .last .1 .1 .1 .1 .1 .0) .nextsend) (a .at .u) (z .slots-of .ensures .0 i)) in
+    let e = q .ends-after .ensures ∙ (λ i. ends-now (a .at .ends) (g .begin .result) (nodes-of (t .send-slot .last .1 .1 .1 .1 .1 .0) .busy) (a .at .u) (z .slots-of .ensures .0 i)) in
+    event-done b (s .pre .0) (a .at) (rows-of (a .rows .now)) (nodes-of (a .nodes .now)) (s .pre .1) _ (w .note .ensures) _ (h .update-may-run .ensures) _ (x .changes .ensures) _ (y .new-nodes .ensures .0) (y .new-nodes .ensures .1) _ (d .update-next-sends .ensures) _ _ _ (g .begin .ensures) _ n _ _ _ (t .send-slot .ensures) _ _ _ e (o .sooner .ensures) (c .next-event .ensures)
 
 pub event-spec : {M : Type 1} → statement M
 event-spec =
@@ -141,6 +141,7 @@ event-spec =
     new-nodes-requires
     update-next-sends-requires
     begin-requires
+    slots-of-requires
     sending-node-requires
     send-slot-requires
     ends-after-requires

@@ -1,61 +1,62 @@
 -- `planner_packing::lay` meets its contract: three stores, the last at the receiver's place.
 -- Assumes nothing.
-use mathlib.Core.Path.{refl, ap}
-use Prim.Native.Nat.{ℕ, _-_}
-use lib.ListN.{set}
+use mathlib.Core.Path.{ap, _∙_}
+use Prim.Native.Nat.{ℕ, _+_, _-_}
+use Rattle.log_rows.specs.Rows.{rows-of, put-comes, put-place}
+use Rattle.planner_nodes.specs.Nodes.{nodes-of, put-lastarrival}
 use borrow.Author.Needs.{needs}
 use Rattle.planner_packing.proofs.packing.lay.Statement.{statement}
 use Rattle.planner_packing.proofs.packing.lay.Tie as tie
 
+processes-of-requires : tie.Need-processes-of-requires
+processes-of-requires c κs = search needs
+
 add-row : tie.Need-add-row
 add-row c = search needs
 
-mul-comes : tie.Need-mul-comes
-mul-comes c = search needs
+put-comes-requires : tie.Need-put-comes-requires
+put-comes-requires c κs = search needs
 
-element-write-comes : tie.Need-element-write-comes
-element-write-comes c = search needs
+put-place-requires : tie.Need-put-place-requires
+put-place-requires c κs = search needs
 
-mul-place : tie.Need-mul-place
-mul-place c = search needs
-
-element-write-place : tie.Need-element-write-place
-element-write-place c = search needs
-
-mul-wide : tie.Need-mul-wide
-mul-wide c = search needs
-
-element-copy-out-wide : tie.Need-element-copy-out-wide
-element-copy-out-wide c = search needs
+remote-of-requires : tie.Need-remote-of-requires
+remote-of-requires c κs = search needs
 
 wide-requires : tie.Need-wide-requires
 wide-requires c κs = search needs
 
-sub-lastarrival : tie.Need-sub-lastarrival
-sub-lastarrival c = search needs
+sub-put-lastarrival : tie.Need-sub-put-lastarrival
+sub-put-lastarrival c = search needs
 
-mul-lastarrival : tie.Need-mul-lastarrival
-mul-lastarrival c = search needs
-
-element-write-lastarrival : tie.Need-element-write-lastarrival
-element-write-lastarrival c = search needs
+put-lastarrival-requires : tie.Need-put-lastarrival-requires
+put-lastarrival-requires c κs = search needs
 
 returns : tie.Need-returns
-returns c = (refl, (refl, ap (λ (x : ℕ). set (c .before .before .args .lastarrival .now) (x - 1) (c .before .before .args .end)) (c .wide .ensures)))
+returns c =
+    let w = c .before .before in
+    let r = w .before in
+    let p = r .before in
+    let q = p .before .before in
+    let m = q .before .before in
+    let a = m .before .args in
+    let row = m .processes-of .ensures .0 in
+    let to = w .wide .ensures ∙ r .remote-of .ensures .0 in
+    let first = q .put-comes .ensures ∙ ap (λ (n : ℕ). put-comes (n + a .e) (a .end) (rows-of (a .rows .now))) row in (
+      p .put-place .ensures ∙ (λ i. put-place (row i + a .e) (a .used) (first i)),
+      c .put-lastarrival .ensures ∙ ap (λ (n : ℕ). put-lastarrival (n - 1) (a .end) (nodes-of (a .nodes .now))) to,
+    )
 
 pub lay-spec : {M : Type 1} → statement M
 lay-spec =
     tie.close
     (tie.spec
+    processes-of-requires
     add-row
-    mul-comes
-    element-write-comes
-    mul-place
-    element-write-place
-    mul-wide
-    element-copy-out-wide
+    put-comes-requires
+    put-place-requires
+    remote-of-requires
     wide-requires
-    sub-lastarrival
-    mul-lastarrival
-    element-write-lastarrival
+    sub-put-lastarrival
+    put-lastarrival-requires
     returns)

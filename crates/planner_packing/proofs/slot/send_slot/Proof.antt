@@ -1,84 +1,115 @@
 -- `planner_packing::send_slot` meets its contract: where n is a node, its slot is filled and what is kept goes on from
 -- there, and nothing changes elsewhere.
 -- Assumes nothing.
-use mathlib.Core.Path.{refl, ap, _∙_}
-use Prim.Native.Nat.{_+_, _<_}
+use mathlib.Core.Path.{refl, sym, ap, _∙_}
+use Prim.Native.Nat.{_<_}
 use native.Mathlib.Omega.{arith}
-use lib.ListN.{getD, set}
+use lib.ListN.{set}
+use borrow.Author.Needs.{needs}
 use borrow.Author.Tests.{eq-eqb, ne-eqb}
 use Rattle.lists.proofs.Tests.{at-most}
-use Rattle.planner_slot_times.specs.NextSends.{next-send-from}
+use Rattle.plan_index.specs.Index.{laid}
+use Rattle.planner_nodes.specs.Nodes.{Nodes, nodes-of, put-nextsend}
+use Rattle.planner_sends.specs.NextSends.{next-send-from}
+use Rattle.planner_packing.specs.Slot.{bus}
+use Rattle.planner_packing.proofs.Rests.{sent-join, listed-after}
 use Rattle.planner_packing.proofs.slot.send_slot.Statement.{statement}
 use Rattle.planner_packing.proofs.slot.send_slot.Tie as tie
 
+slots-of-requires : tie.Need-slots-of-requires
+slots-of-requires c κs = search needs
+
 returns : tie.Need-returns
-returns c = (rw (eq-eqb _ _ (c .if1 .taken)) refl, (rw (eq-eqb _ _ (c .if1 .taken)) refl, (rw (eq-eqb _ _ (c .if1 .taken)) refl, record { left = λ l. absurd (omega (arith, c .if1 .taken)); kept = λ q. (refl, refl) })))
+returns c =
+    let slots = c .before .slots-of .ensures .0 in
+    let h = eq-eqb _ _ (c .if1 .taken ∙ slots) in
+    record {
+      taken = rw h refl;
+      arrivals = rw h refl;
+      slot = rw h refl;
+      waits = record { left = λ l. absurd (omega (arith, c .if1 .taken, slots)); kept = λ q. (refl, refl) };
+      rows-rest = refl;
+      nodes-rest = refl;
+    }
 
 -- the node is one of the nodes
-low : (c : tie.Else1) → c .before .args .n < c .before .args .slots
-low c = at-most _ _ (c .before .pre .4) (c .if1 .left)
+low : (e : tie.Else1) → e .before .before .args .n < laid (e .before .before .args .index .now) .slots
+low e = at-most _ _ (e .before .before .pre .3 .node) (λ z. e .if1 .left (z ∙ sym (e .before .slots-of .ensures .0)))
 
 fill-requires : tie.Need-fill-requires
 fill-requires c κs =
+    let e = c .before .before in
+    let p = e .before .before .pre in
+    (low e, p .0, p .1, p .2, p .3)
+
+put-waitend-requires : tie.Need-put-waitend-requires
+put-waitend-requires c κs =
+    let e = c .before .before .before .before in
+    omega (arith, low e, e .before .before .pre .1 .few-slots)
+
+round-of-requires : tie.Need-round-of-requires
+round-of-requires c κs = search needs
+
+offset-of-requires : tie.Need-offset-of-requires
+offset-of-requires c κs =
     let e = c .before .before .before .before .before .before in
-    let p = e .before .pre in
-    let l = low e in
-    let n = e .before .args .n in
-    (omega (arith, l, p .3), p .0, p .1, p .2, p .3, p .5, p .6, p .10, p .11 n l, p .12, p .13 l, p .14, p .15 l, omega (arith, p .16 l, p .6 (n + 1)), p .17 .wait-long, p .17 .wait-small)
-
-mul-waitend : tie.Need-mul-waitend
-mul-waitend c = let e = c .before .before .before .before .before .before .before in omega (arith, low e, e .before .pre .3)
-
-element-write-waitend : tie.Need-element-write-waitend
-element-write-waitend c = let e = c .before .before .before .before .before .before .before in omega (arith, low e, e .before .pre .3)
-
-mul-next-send-from : tie.Need-mul-next-send-from
-mul-next-send-from c = let e = c .before .before .before .before .before .before .before in omega (arith, low e, e .before .pre .3)
-
-element-copy-out-next-send-from : tie.Need-element-copy-out-next-send-from
-element-copy-out-next-send-from c = let e = c .before .before .before .before .before .before .before in omega (arith, low e, e .before .pre .3)
+    omega (arith, low e, e .before .before .pre .1 .few-slots)
 
 next-send-from-requires : tie.Need-next-send-from-requires
 next-send-from-requires c κs =
-    let e = c .before .before .before .before .before .before .before .before in
-    let p = e .before .pre in
-    (p .7, p .8, p .9 (e .before .args .n) (low e), p .10)
+    let e = c .before .before .before .before .before .before .before in
+    let s = e .before .before in
+    let t = s .pre .2 in
+    let r = c .before .round-of .ensures in
+    (omega (arith, r, t .round-one), omega (arith, r, t .round-most), omega (arith, r, c .offset-of .ensures, t .offset-most (s .args .n) (low e)), s .pre .0)
 
-mul-nextsend : tie.Need-mul-nextsend
-mul-nextsend c = let e = c .before .before .before .before .before .before .before .before .before in omega (arith, low e, e .before .pre .3)
-
-element-write-nextsend : tie.Need-element-write-nextsend
-element-write-nextsend c = let e = c .before .before .before .before .before .before .before .before .before in omega (arith, low e, e .before .pre .3)
+put-nextsend-requires : tie.Need-put-nextsend-requires
+put-nextsend-requires c κs =
+    let e = c .before .before .before .before .before .before .before .before .before in
+    omega (arith, low e, e .before .before .pre .1 .few-slots)
 
 returns-2 : tie.Need-returns-2
 returns-2 c =
-    let f = c .before .before in
-    let e = f .before .before .before .before .before .before .before in
-    let a = e .before .args in
-    let p = e .before .pre in
+    let d = c .before .before in
+    let o = d .before in
+    let r = o .before in
+    let w = r .before in
+    let f = w .before .before in
+    let e = f .before .before .before in
+    let t = e .before .before in
+    let a = t .args in
+    let ns : Nodes = nodes-of (a .nodes .now) in
     let g = f .fill .ensures in
-    let d = ne-eqb _ _ (e .if1 .left) in (
-      rw d (g .0),
-      (
-        rw d (g .1 .1 .1 .1),
-        (
-          rw d (ap (set (a .nextsend .now) (a .n)) (c .next-send-from .ensures ∙ ap (next-send-from (a .round) (getD (a .offset .now) (a .n) 0) (a .u)) (g .1 .0))),
-          record { left = λ l. record { end = f .fill .result .behind; listed = g .1 .1 .0; upto = omega (arith, g .1 .1 .1 .0, p .16 (low e)); stored = refl }; kept = λ q. absurd (e .if1 .left q) },
-        ),
-      ),
-    )
+    let h = ne-eqb _ _ (λ z. e .if1 .left (z ∙ sym (e .before .slots-of .ensures .0))) in
+    let stored = c .put-nextsend .ensures ∙ ap (put-nextsend (a .n) (d .next-send-from .result)) (w .put-waitend .ensures) in
+    let next = d .next-send-from .ensures ∙ (λ i. next-send-from (r .round-of .ensures i) (o .offset-of .ensures i) (a .u) (g .short i)) in
+    record {
+      taken = rw h (ap (bus _ _ _ _) (λ i. stored i .passed) ∙ g .taken);
+      arrivals = rw h ((λ i. stored i .lastarrival) ∙ g .arrivals);
+      slot = rw h ((λ i. stored i .nextsend) ∙ (λ i. set (g .nodes-rest i .nextsend) (a .n) (next i)));
+      waits = record {
+        left = λ l. record {
+          end = f .fill .result .behind;
+          listed = listed-after (λ i. stored i .wait) (g .left);
+          upto = omega (arith, g .upto, t .pre .3 .ends (low e));
+          stored = (λ i. stored i .waitend) ∙ (λ i. set (g .nodes-rest i .waitend) (a .n) (f .fill .result .behind));
+        };
+        kept = λ z. absurd (e .if1 .left (z ∙ sym (e .before .slots-of .ensures .0)));
+      };
+      rows-rest = g .rows-rest;
+      nodes-rest = sent-join ns _ _ (g .nodes-rest) stored;
+    }
 
 pub send-slot-spec : {M : Type 1} → statement M
 send-slot-spec =
     tie.close
     (tie.spec
+    slots-of-requires
     returns
     fill-requires
-    mul-waitend
-    element-write-waitend
-    mul-next-send-from
-    element-copy-out-next-send-from
+    put-waitend-requires
+    round-of-requires
+    offset-of-requires
     next-send-from-requires
-    mul-nextsend
-    element-write-nextsend
+    put-nextsend-requires
     returns-2)

@@ -1,59 +1,47 @@
 -- `planner_prefix::last_ends` meets its contract: before turn i the ends of the first i processes are looked at.
 -- Assumes nothing.
-use mathlib.Core.Path.{_≡_, ap, _∙_}
-use Prim.Native.Nat.{_≤_, _<_, _-_}
+use mathlib.Core.Path.{_≡_, refl, ap, _∙_}
+use Prim.Native.Nat.{ℕ, _≤_, _-_, max}
 use native.Mathlib.Omega.{arith}
+use lib.ListN.{getD}
+use Rattle.plan_index.specs.Index.{laid}
+use Rattle.log_rows.specs.Rows.{rows-of}
+use Rattle.planner_nodes.specs.Nodes.{nodes-of, with-busy, put-busy}
 use Rattle.planner_prefix.specs.Prefix.{ends-below}
 use Rattle.planner_prefix.proofs.LastEnds.{ends-next}
-use Rattle.planner_prefix.proofs.prefix.last_ends.Statement.{statement}
 use borrow.Author.Needs.{needs}
+use Rattle.planner_prefix.proofs.prefix.last_ends.Statement.{statement}
 use Rattle.planner_prefix.proofs.prefix.last_ends.Tie as tie
 
 abbrev Inv-loop : tie.InvT-loop
-Inv-loop node rows processes ends₀ i₀ ends i = (i ≤ processes) × (ends ≡ ends-below node rows i)
+Inv-loop index rows nodes₀ processes i₀ nodes i = (i ≤ processes) × (nodes-of nodes ≡ with-busy (ends-below (laid index .node) (rows-of rows .comes) i) (nodes-of nodes₀))
 
 abbrev μ-loop : tie.MeasureT-loop
-μ-loop node rows processes ends₀ i₀ ends i = processes - i
+μ-loop index rows nodes₀ processes i₀ nodes i = processes - i
 
-no-counts-requires : tie.Need-no-counts-requires Inv-loop μ-loop
-no-counts-requires c κs = search needs
+processes-of-requires : tie.Need-processes-of-requires Inv-loop μ-loop
+processes-of-requires c κs = search needs
 
 loop-holds : tie.Need-loop-holds Inv-loop μ-loop
 unfolding ends-below
-loop-holds c = search needs
+loop-holds c =
+    let z = c .before .pre .1 in
+    (omega arith, λ i. with-busy (z i) (nodes-of (c .before .args .nodes .now)))
 
-mul-wide : tie.Need-mul-wide Inv-loop μ-loop
-mul-wide c = search needs
+node-of-requires : tie.Need-node-of-requires Inv-loop μ-loop
+node-of-requires c κs = search needs
 
-element-copy-out-wide : tie.Need-element-copy-out-wide Inv-loop μ-loop
-element-copy-out-wide c = search needs
+busy-of-requires : tie.Need-busy-of-requires Inv-loop μ-loop
+busy-of-requires c κs = search needs
 
-wide-requires : tie.Need-wide-requires Inv-loop μ-loop
-wide-requires c κs = search needs
-
-small : (c : tie.After-wide Inv-loop μ-loop) → c .wide .result < 8
-small c = omega (arith, c .wide .ensures, c .before .before .before .before .before .pre .1 (c .before .before .before .loop .i))
-
-mul-greater : tie.Need-mul-greater Inv-loop μ-loop
-mul-greater c = let l = small c in omega arith
-
-array-read-greater : tie.Need-array-read-greater Inv-loop μ-loop
-array-read-greater c = small c
-
-mul-greater-2 : tie.Need-mul-greater-2 Inv-loop μ-loop
-mul-greater-2 c = search needs
-
-element-copy-out-greater : tie.Need-element-copy-out-greater Inv-loop μ-loop
-element-copy-out-greater c = search needs
+comes-of-requires : tie.Need-comes-of-requires Inv-loop μ-loop
+comes-of-requires c κs = search needs
 
 greater-requires : tie.Need-greater-requires Inv-loop μ-loop
 greater-requires c κs = search needs
 
-mul-ends : tie.Need-mul-ends Inv-loop μ-loop
-mul-ends c = let l = small (c .before .before) in omega arith
-
-array-write-ends : tie.Need-array-write-ends Inv-loop μ-loop
-array-write-ends c = small (c .before .before)
+put-busy-requires : tie.Need-put-busy-requires Inv-loop μ-loop
+put-busy-requires c κs = search needs
 
 add-i : tie.Need-add-i Inv-loop μ-loop
 add-i c = search needs
@@ -63,16 +51,32 @@ loop-less c = search needs
 
 loop-again : tie.Need-loop-again Inv-loop μ-loop
 loop-again c =
-    let w = c .before .before in
-    let l = w .before .before .before .loop in
-    let a = w .before .before .before .before .before .args in
-    (omega arith, ends-next (a .node .now) (a .rows .now) (l .i) (w .wide .result) (c .greater .result) (l .ends) (l .inv .1) (w .wide .ensures) (c .greater .ensures))
+    let g = c .before .before in
+    let r = g .before in
+    let u = r .before in
+    let n = u .before .before in
+    let i = n .before in
+    let l = i .before in
+    let p = l .before in
+    let a = p .before .args in
+    let q = l .loop .inv .1 in (
+      omega (arith, i .loop-test .taken),
+      c .put-busy .ensures
+          ∙ (λ j. put-busy (n .node-of .result) (g .greater .result) (q j))
+          ∙ (λ j.
+          with-busy
+          (ends-next (laid (a .index .now) .node) (rows-of (a .rows .now) .comes) (l .loop .i) (n .node-of .result) (g .greater .result) (ends-below (laid (a .index .now) .node) (rows-of (a .rows .now) .comes) (l .loop .i)) refl (n .node-of .ensures .0)
+          (g .greater .ensures ∙ (λ k. max ((u .busy-of .ensures ∙ (λ m. getD (q m .busy) (n .node-of .result) 0)) k) (r .comes-of .ensures k)))
+          j)
+          (nodes-of (a .nodes .now))),
+    )
 
 returns : tie.Need-returns Inv-loop μ-loop
 returns c =
-    let l = c .before .loop in
-    let a = c .before .before .before .args in
-    l .inv .1 ∙ ap (ends-below (a .node .now) (a .rows .now)) (omega arith)
+    let l = c .before in
+    let p = l .before in
+    let a = p .before .args in
+    l .loop .inv .1 ∙ ap (λ (n : ℕ). with-busy (ends-below (laid (a .index .now) .node) (rows-of (a .rows .now) .comes) n) (nodes-of (a .nodes .now))) (omega (arith, l .loop .inv .0, c .loop-test .left, p .processes-of .ensures .0))
 
 pub last-ends-spec : {M : Type 1} → statement M
 last-ends-spec =
@@ -80,18 +84,13 @@ last-ends-spec =
     (tie.spec
     Inv-loop
     μ-loop
-    no-counts-requires
+    processes-of-requires
     loop-holds
-    mul-wide
-    element-copy-out-wide
-    wide-requires
-    mul-greater
-    array-read-greater
-    mul-greater-2
-    element-copy-out-greater
+    node-of-requires
+    busy-of-requires
+    comes-of-requires
     greater-requires
-    mul-ends
-    array-write-ends
+    put-busy-requires
     add-i
     loop-less
     loop-again

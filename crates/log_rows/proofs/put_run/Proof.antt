@@ -1,0 +1,21 @@
+-- `log_rows::put_run` meets its contract.
+-- Assumes nothing.
+use Rattle.log_rows.proofs.Stores.{stored-run}
+use borrow.Author.Needs.{needs}
+use Rattle.log_rows.proofs.put_run.Statement.{statement}
+use Rattle.log_rows.proofs.put_run.Tie as tie
+
+add-rows : tie.Need-add-rows
+add-rows c = search needs
+
+mul-rows : tie.Need-mul-rows
+mul-rows c = search needs
+
+element-write-rows : tie.Need-element-write-rows
+element-write-rows c = search needs
+
+returns : tie.Need-returns
+returns c = let a = c .args in stored-run (a .rows .now) (a .i) (a .x) (c .pre)
+
+pub put-run-spec : {M : Type 1} → statement M
+put-run-spec = tie.close (tie.spec add-rows mul-rows element-write-rows returns)

@@ -1,0 +1,124 @@
+// When the slot of each node next takes an item, and which messages wait there, looked up again where something
+// changes. specs/NextSends.antt says the same of the arrays.
+use crate::broadcasts::has_broadcast;
+use crate::messages::find_waiting;
+use bitset::lowest_node;
+use bitset::without_lowest_node;
+use bus_timetable::first_beginning;
+use limits::NEVER;
+use log_rows::Rows;
+use plan_index::Index;
+use plan_index::offset_of;
+use plan_index::queuefirst_of;
+use plan_index::round_of;
+use plan_index::slots_of;
+use planner_nodes::Nodes;
+use planner_nodes::busy_of;
+use planner_nodes::put_nextsend;
+use planner_nodes::put_waitend;
+ghost use mathlib.Core.Path.{_≡_};
+ghost use Prim.Native.Nat.{_+_, _<_, _≤_};
+ghost use mathlib.Core.Bool.{_||_};
+ghost use lib.Dec.{eqb};
+ghost use lib.ListN.{length, getD};
+ghost use Rattle.limits.specs.Limits.{NODES, EDGES, ROUNDTICKS, LASTCLOCK};
+ghost use Rattle.plan_index.specs.Index.{laid, Bounded};
+ghost use Rattle.log_rows.specs.Rows.{rows-of};
+ghost use Rattle.planner_nodes.specs.Nodes.{nodes-of};
+ghost use Rattle.planner_sends.specs.NextSends.{next-send-from, pending-at, Timed, Updatable};
+ghost use Rattle.planner_sends.specs.NextSends.{Relists, Updates-node, Updates};
+
+// Whether node n has an item pending at clock u.
+fn has_pending(index: &Index, rows: &Rows, n: usize, u: u32, nodes: &mut Nodes) -> bool
+    requires { ⌜ (n < NODES) × Bounded (laid (now index))
+        × (getD (laid (now index) .queuefirst) n 0 ≤ getD (laid (now index) .queuefirst) (n + 1) 0)
+        × (length (nodes-of (now nodes) .wait) ≡ EDGES) ⌝ }
+    ensures pending { λ r. ⌜ r ≡ pending-at (laid (now (index .entry))) (rows-of (now (rows .entry))) u n ⌝ }
+    ensures waits { λ _. ⌜ Relists (laid (now (index .entry))) (rows-of (now (rows .entry))) u n
+        (nodes-of (now (nodes .entry))) (nodes-of (now (nodes .exit))) ⌝ }
+{
+    let a = queuefirst_of(index, n);
+    let b = queuefirst_of(index, n + 1);
+    let z = find_waiting(index, rows, a, b, u, nodes);
+    put_waitend(nodes, n, z as u32);
+    if a < z {
+        return true;
+    }
+    has_broadcast(index, rows, n, u)
+}
+
+// The clock of the first beginning of a slot from a tick on where its node has an item pending, or `NEVER` where it has
+// none.
+pub fn next_send_from(round: u32, offset: u32, tick: u32, pending: bool) -> u32
+    requires { ⌜ (1 ≤ round) × (round ≤ ROUNDTICKS) × (offset ≤ round) × (tick ≤ LASTCLOCK) ⌝ }
+    ensures { λ r. ⌜ r ≡ next-send-from round offset tick pending ⌝ }
+{
+    if pending {
+        return first_beginning(round, offset, tick) + 1;
+    }
+    NEVER
+}
+
+// Whether the items that a node has pending may change at clock u: a broadcast arrives, or the node's last process
+// ends.
+fn may_change(broadcastend: u32, end: u32, u: u32) -> bool
+    ensures { λ r. ⌜ r ≡ (eqb broadcastend u || eqb end u) ⌝ }
+{
+    if broadcastend == u {
+        return true;
+    }
+    end == u
+}
+
+// When the slot of node n next takes an item, as seen at clock u: looked up again where a broadcast arrives or the
+// node's last process ends.
+fn update_next_send(
+    index: &Index,
+    rows: &Rows,
+    broadcastend: u32,
+    n: usize,
+    u: u32,
+    nodes: &mut Nodes,
+)
+    requires { ⌜ (n < laid (now index) .slots) × (1 ≤ u) × (u ≤ LASTCLOCK) × Bounded (laid (now index))
+        × Timed (laid (now index)) × (length (nodes-of (now nodes) .wait) ≡ EDGES) ⌝ }
+    ensures { λ _. ⌜ Updates-node (laid (now (index .entry))) (rows-of (now (rows .entry))) broadcastend u n
+        (nodes-of (now (nodes .entry))) (nodes-of (now (nodes .exit))) ⌝ }
+{
+    if may_change(broadcastend, busy_of(nodes, n), u) {
+        let some = has_pending(index, rows, n, u, nodes);
+        let tick = u - 1;
+        let next = next_send_from(round_of(index), offset_of(index, n), tick, some);
+        put_nextsend(nodes, n, next);
+    }
+}
+
+// When the slot of each node next takes an item, as seen at clock u. Where nothing changes at it (`come` is not u),
+// that is as before. `new` is the mask of the nodes for which something is new at u; for the others it is as before
+// too.
+pub fn update_next_sends(
+    index: &Index,
+    rows: &Rows,
+    come: u32,
+    broadcastend: u32,
+    u: u32,
+    new: u32,
+    nodes: &mut Nodes,
+)
+    requires { ⌜ (1 ≤ u) × (u ≤ LASTCLOCK) × Bounded (laid (now index)) × Timed (laid (now index))
+        × Updatable (laid (now index)) broadcastend u new (nodes-of (now nodes)) ⌝ }
+    ensures { λ _. ⌜ Updates (laid (now (index .entry))) (rows-of (now (rows .entry))) come broadcastend u
+        (nodes-of (now (nodes .entry))) (nodes-of (now (nodes .exit))) ⌝ }
+{
+    if come != u {
+        return;
+    }
+    let mut left = new;
+    while left != 0 {
+        let n = lowest_node(left) as usize;
+        if n < slots_of(index) {
+            update_next_send(index, rows, broadcastend, n, u, nodes);
+        }
+        left = without_lowest_node(left);
+    }
+}
