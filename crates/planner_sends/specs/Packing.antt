@@ -1,6 +1,6 @@
 -- What a slot takes, in the words of the arrays: `comes` and `place` by row, `decider` by condition, `node` by process,
--- `from`, `knownby`, `unmet` and `bytes` by edge. Condition k's row is tell + k, edge e's is processes + e, and the
--- messages of the slot's node are those of `queue` from place a to before place b. The clock u is the tick plus 1.
+-- `from`, `knownby`, `unmet` and `bytes` by edge. Condition k's row is conditionrow + k, edge e's is processes + e, and
+-- the messages of the slot's node are those of `queue` from place a to before place b. The clock u is the tick plus 1.
 -- Assumes nothing.
 use Prim.Native.Nat.{ℕ, zero, suc, _+_, _-_, _≤_, _<_}
 use mathlib.Core.Bool.{Bool, true, not, _&&_, _||_}
