@@ -30,9 +30,13 @@ pub record Carried (round begun t : ℕ) : Type 0 where
   pub beginning : begun % round ≡ 0
   pub by : begun ≤ t
 
--- the reciprocal of a round: 2 to the 31 less 1, over the round
+-- 2 to the 31: all ticks are below it, and a product with a reciprocal is divided by it
+abbrev pub SCALE : ℕ
+SCALE = 2147483648
+
+-- the reciprocal of a round: how often it lies in as many ticks, less 1
 unfoldable pub reciprocal-of : ℕ → ℕ
-reciprocal-of round = 2147483647 / round
+reciprocal-of round = (SCALE - 1) / round
 
 -- how often a round lies in v ticks, and what is left of them
 pub record Shared (round v : ℕ) (s : Share) : Type 0 where

@@ -20,8 +20,8 @@ ghost use Rattle.model.specs.Refusals.{nothing, plan-refusal};
 ghost use Rattle.plan.specs.Memory.{lines};
 ghost use Rattle.bus_timetable.specs.Bus.{ticks-of, Short, Small, Lasting, Placed, table-of, timetable};
 
-// The ticks of a round, their reciprocal and, by node, the ticks from a round's beginning to the node's slot, the slot's
-// ticks and its bytes.
+// The ticks of a round, their reciprocal and, by node, the ticks from a round's beginning to the node's slot, the
+// slot's ticks and its bytes.
 pub struct Timetable {
     pub round: u32,
     pub reciprocal: u32,

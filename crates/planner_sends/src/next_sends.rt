@@ -19,11 +19,11 @@ use planner_nodes::busy_of;
 use planner_nodes::put_nextsend;
 use planner_nodes::put_waitend;
 ghost use mathlib.Core.Path.{_≡_};
-ghost use Prim.Native.Nat.{_+_, _-_, _<_, _≤_};
+ghost use Prim.Native.Nat.{_-_, _<_, _≤_};
 ghost use mathlib.Core.Bool.{_||_};
 ghost use lib.Dec.{eqb};
-ghost use lib.ListN.{length, getD};
-ghost use Rattle.limits.specs.Limits.{NODES, EDGES, ROUNDTICKS, LASTCLOCK};
+ghost use lib.ListN.{length};
+ghost use Rattle.limits.specs.Limits.{EDGES, ROUNDTICKS, LASTCLOCK};
 ghost use Rattle.plan_index.specs.Index.{laid, Bounded};
 ghost use Rattle.log_rows.specs.Rows.{rows-of};
 ghost use Rattle.planner_nodes.specs.Nodes.{nodes-of};
@@ -33,8 +33,7 @@ ghost use Rattle.planner_sends.specs.NextSends.{Relists, Updates-node, U
 
 // Whether node n has an item pending at clock u.
 fn has_pending(index: &Index, rows: &Rows, n: usize, u: u32, nodes: &mut Nodes) -> bool
-    requires { ⌜ (n < NODES) × (n < laid (now index) .slots) × Bounded (laid (now index)) × Timed (laid (now index))
-        × (getD (laid (now index) .queuefirst) n 0 ≤ getD (laid (now index) .queuefirst) (n + 1) 0)
+    requires { ⌜ (n < laid (now index) .slots) × Bounded (laid (now index)) × Timed (laid (now index))
         × (length (nodes-of (now nodes) .wait) ≡ EDGES) ⌝ }
     ensures pending { λ r. ⌜ r ≡ pending-at (laid (now (index .entry))) (rows-of (now (rows .entry))) u n ⌝ }
     ensures waits { λ _. ⌜ Relists (laid (now (index .entry))) (rows-of (now (rows .entry))) u n

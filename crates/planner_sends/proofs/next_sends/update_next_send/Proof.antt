@@ -26,7 +26,7 @@ has-pending-requires : tie.Need-has-pending-requires
 has-pending-requires c κs =
     let s = c .before .before .before .before .before in
     let p = s .pre in
-    (omega (arith, p .0, p .3 .few-slots), p .0, p .3, p .4, p .4 .queue-rising (s .args .n) (p .0), p .5)
+    (p .0, p .3, p .4, p .5)
 
 sub-tick : tie.Need-sub-tick
 sub-tick c = search needs
