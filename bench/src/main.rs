@@ -12,12 +12,14 @@
 //! inputs. Instructions are counted by valgrind on this program itself, called with the words
 //! `repeat SET CLASS WAY TIMES`: twice as many rounds less as many rounds.
 
+mod classes;
 mod sets;
 
 use std::process::Command;
 use std::time::{Duration, Instant};
 
-use sets::{compare, inputs, Class, Input, Set, Way, CLASSES, SETS, UNCOUNTED};
+use classes::{Class, CLASSES};
+use sets::{compare, inputs, Input, Set, Way, SETS, UNCOUNTED};
 
 /// How long the rounds of a class go on; the last one is finished.
 const TIME_PER_CLASS: Duration = Duration::from_millis(1_200);

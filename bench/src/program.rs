@@ -67,7 +67,7 @@ mod tests {
     use generate::{plan, Kind, Random};
     use reference::print;
 
-    const COUNTS: [(Kind, u64); 7] = [
+    const COUNTS: [(Kind, u64); 8] = [
         (Kind::Tiny, 3_000),
         (Kind::DenseBus, 300),
         (Kind::ManyConditions, 300),
@@ -75,6 +75,7 @@ mod tests {
         (Kind::Largest, 16),
         (Kind::LongestRound, 200),
         (Kind::ShortestRound, 300),
+        (Kind::LongGaps, 300),
     ];
 
     #[test]

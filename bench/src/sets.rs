@@ -1,4 +1,4 @@
-//! What is measured: the classes of inputs, the ways, and the check that all ways of a set agree.
+//! What is measured: the inputs of a class, the ways, and the check that all ways of a set agree.
 
 use std::hint::black_box;
 
@@ -6,64 +6,9 @@ use bench::baseline::{Outcome, Planner};
 use bench::printing::{Printer, PROGRAM_FRAME_WORDS, PROGRAM_WORDS};
 use bench::program::Program;
 use bench::reading::{no_lines, read};
-use generate::{plan, Kind, Random};
 use reference::Lines;
 
-/// A class of inputs: random plans of a kind.
-pub struct Class {
-    kind: Kind,
-    count: u64,
-    heads: Heads,
-}
-
-/// The bytes that the frames of a class have beside their data.
-#[derive(Clone, Copy)]
-enum Heads {
-    /// None: slots last as long as their data.
-    None,
-    /// From 0 to 16, by the number of the plan.
-    Random,
-}
-
-/// The classes of inputs.
-pub const CLASSES: [Class; 8] = [
-    Class::new(Kind::Tiny, 64, Heads::None),
-    Class::new(Kind::DenseBus, 32, Heads::None),
-    Class::new(Kind::ManyConditions, 32, Heads::None),
-    Class::new(Kind::NestedAny, 32, Heads::None),
-    Class::new(Kind::Largest, 4, Heads::None),
-    Class::new(Kind::Largest, 4, Heads::Random),
-    Class::new(Kind::LongestRound, 32, Heads::None),
-    Class::new(Kind::ShortestRound, 32, Heads::None),
-];
-
-/// What the seed of a plan's head is beside the seed of the plan.
-const HEAD_SEEDS: u64 = 1 << 32;
-
-impl Class {
-    const fn new(kind: Kind, count: u64, heads: Heads) -> Self {
-        Class { kind, count, heads }
-    }
-
-    /// The name of the class.
-    pub fn name(&self) -> String {
-        match self.heads {
-            Heads::None => format!("{:?}", self.kind),
-            Heads::Random => format!("{:?}Heads", self.kind),
-        }
-    }
-
-    /// The plan of a number. Its head has a seed of its own: plans of one kind and number differ in
-    /// the head alone.
-    fn plan(&self, number: u64) -> Lines {
-        let mut lines = plan(self.kind, &mut Random::new(number));
-        lines.plan.head = match self.heads {
-            Heads::None => 0,
-            Heads::Random => Random::new(HEAD_SEEDS | number).between(0, 16),
-        };
-        lines
-    }
-}
+use crate::classes::Class;
 
 /// The least number of inputs of a class that begin with a text.
 const LEAST_TEXTS: u64 = 8;

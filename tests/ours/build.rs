@@ -1,8 +1,8 @@
 //! Looks for what the tests need, and sets a `cfg` for each that is there: `have_archive` for the
 //! archive, which is then linked, `have_program` for the planning program, `have_check_program` for
-//! the checking program, `have_valgrind`, `have_pkg_config`, `have_terminal` for the program
-//! `script`, which lends one, and `have_full` for the device to which no byte can be written. A test
-//! that needs one of the last four is ignored where that is missing, and says so.
+//! the checking program, `have_valgrind`, `have_objdump`, `have_pkg_config`, `have_terminal` for the
+//! program `script`, which lends one, and `have_full` for the device to which no byte can be written.
+//! A test that needs one of the last five is ignored where that is missing, and says so.
 
 use std::path::{Path, PathBuf};
 
@@ -18,6 +18,7 @@ fn main() {
     look_for("have_check_program", &programs.join("riscadru_check"));
     println!("cargo:rerun-if-env-changed=PATH");
     look_for("have_valgrind", &on_path("valgrind"));
+    look_for("have_objdump", &on_path("objdump"));
     look_for("have_pkg_config", &on_path("pkg-config"));
     look_for("have_terminal", &on_path("script"));
     look_for("have_full", Path::new("/dev/full"));

@@ -14,6 +14,7 @@ pub use numbers::greater;
 pub use numbers::greater_u64;
 pub use numbers::lesser;
 pub use numbers::lesser_usize;
+pub use numbers::long;
 pub use numbers::wide;
 pub use zeros::no_counts;
 pub use zeros::no_edges;

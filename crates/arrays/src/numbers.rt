@@ -9,6 +9,13 @@ pub fn wide(x: u32) -> usize
     x as usize
 }
 
+// The same number, as one of 64 bits.
+pub fn long(x: u32) -> u64
+    ensures { λ r. ⌜ r ≡ x ⌝ }
+{
+    x as u64
+}
+
 // The greater of two numbers.
 pub fn greater(a: u32, b: u32) -> u32
     ensures { λ r. ⌜ r ≡ max a b ⌝ }

@@ -1,7 +1,7 @@
 -- Masks built from their highest bit down: their bits, their members, the turns of the loop that builds one, masks of
 -- tests that agree, and the mask of either of two tests.
 -- Assumes nothing.
-use mathlib.Core.Path.{_≡_, refl, sym, ap, _∙_}
+use mathlib.Core.Path.{_≡_, refl, sym, ap, _∙_, subst}
 use mathlib.Core.Bool.{Bool, true, false, _||_}
 use mathlib.Core.List.{_∷_}
 use Prim.Native.Nat.{ℕ, zero, suc, _+_, _-_, _*_, _/_, _%_, _^_, _≤_, _<_, max}
@@ -54,6 +54,20 @@ built-beyond : (f : ℕ → Bool) (a n k : ℕ) → n ≤ k → bit (mask-from f
 built-beyond f a zero k l = bit-none k
 built-beyond f a (suc n) zero l = absurd (omega arith)
 built-beyond f a (suc n) (suc k) l = bit-rest (f a) (mask-from f (suc a) n) k ∙ built-beyond f (suc a) n k (omega arith)
+
+-- the mask of one number more: its bit is added above the others
+pub built-above : (f : ℕ → Bool) (a n : ℕ) → mask-from f a (suc n) ≡ mask-from f a n + (if f (a + n) then 2 ^ n else 0)
+built-above f a zero = subst (λ (c : Bool). under (f a) 0 ≡ 0 + (if c then 2 ^ 0 else 0)) (ap f (sym (add-zero a))) (at (f a))
+  where
+    at : (b : Bool) → under b 0 ≡ 0 + (if b then 2 ^ 0 else 0)
+    at true = refl
+    at false = refl
+built-above f a (suc n) =
+    ap (under (f a)) (built-above f (suc a) n ∙ ap (λ (k : ℕ). mask-from f (suc a) n + (if f k then 2 ^ n else 0)) (shift a n)) ∙ at (f (a + suc n))
+  where
+    at : (b : Bool) → under (f a) (mask-from f (suc a) n + (if b then 2 ^ n else 0)) ≡ under (f a) (mask-from f (suc a) n) + (if b then 2 ^ suc n else 0)
+    at true = omega (arith, pow-succ' 2 n)
+    at false = omega arith
 
 -- a test that is f on the first n of the numbers and false on the others
 keep-within : (f g : ℕ → Bool) (a n size : ℕ) → n ≤ size → ((k : ℕ) → a ≤ k → k < a + n → g k ≡ f k) → ((k : ℕ) → a + n ≤ k → g k ≡ false)

@@ -16,7 +16,7 @@ use Rattle.lists.specs.Ordered.{Order, less, same, more, order}
 use Rattle.lists.proofs.Members.{all-in, in-below, below-in, keep-in}
 use Rattle.lists.proofs.Order.{order-same}
 use Rattle.model.specs.Listing.{bit}
-use Rattle.bitset.specs.Masks.{members, nodes}
+use Rattle.bitset.specs.Masks.{members, mask-of, nodes}
 
 is-same : Order → Bool
 is-same less = false
@@ -40,6 +40,9 @@ split set m = is-same (order (set (suc m)) (trailingZeros 32 (suc m) ∷ set (bi
 counted : ℕ → Bool
 counted m = eqb (ones m) (length (members m))
 
+rebuilt : ℕ → Bool
+rebuilt m = eqb (mask-of (members m)) m
+
 emptied : ℕ → Bool
 emptied m = Bool·beq (eqb m 0) (null (members m))
 
@@ -53,6 +56,11 @@ pub node-split : (m : ℕ) → 0 < m → m < 256 → nodes m ≡ trailingZeros 3
 unfolding split nodes bit trailingZeros order is-same
 node-split zero p h = absurd (omega arith)
 node-split (suc m) p h = order-same _ _ (told-same _ (holds-at (split nodes) 255 m refl (omega arith)))
+
+-- a mask is that of its members
+pub mask-rebuilt : (m : ℕ) → m < 64 → mask-of (members m) ≡ m
+unfolding rebuilt members bit mask-of
+mask-rebuilt m h = eqb-true (mask-of (members m)) m (holds-at rebuilt 64 m refl h)
 
 -- the lowest node of a mask is below 8, and an empty mask has none
 pub node-small : (m n : ℕ) → nodes m ≡ n ∷ drop 1 (nodes m) → n < 8

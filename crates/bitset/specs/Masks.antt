@@ -1,6 +1,6 @@
 -- Masks: a word whose bits stand for conditions, condition 0 the lowest bit.
 -- Assumes nothing.
-use Prim.Native.Nat.{ℕ, zero, suc, _+_, _*_}
+use Prim.Native.Nat.{ℕ, zero, suc, _+_, _*_, _^_}
 use mathlib.Core.Bool.{Bool, false}
 use mathlib.Core.List.{List, [], _∷_}
 use lib.ListN.{getD}
@@ -10,6 +10,15 @@ use Rattle.model.specs.Listing.{bit}
 -- the conditions whose bits are set in a mask of six bits, ascending
 unfoldable pub members : ℕ → List ℕ
 members m = keep (bit m) (below 6)
+
+-- the mask that has these members
+unfoldable pub mask-of : List ℕ → ℕ
+mask-of [] = 0
+mask-of (k ∷ ks) = 2 ^ k + mask-of ks
+
+-- the members of a mask that pass a test, as a mask
+unfoldable pub passing : (ℕ → Bool) → ℕ → ℕ
+passing f m = mask-of (keep f (members m))
 
 -- the nodes whose bits are set in a mask of eight bits, ascending
 unfoldable pub nodes : ℕ → List ℕ

@@ -8,24 +8,23 @@ use Prim.Native.Nat.{ℕ, _+_, _*_, _≤_, _<_}
 use native.Mathlib.Omega.{arith}
 use lib.Dec.{eqb}
 use lib.ListN.{length, getD}
-use borrow.Author.Tests.{ltb-false, ne-eqb}
+use borrow.Author.Tests.{ne-eqb}
 use Rattle.limits.specs.Limits.{ROUNDTICKS}
 use Rattle.lists.specs.Lists.{if_then_else_, sum, below, fill}
-use Rattle.lists.proofs.Tests.{neither}
 use Rattle.lists.proofs.Members.{in-getD}
 use Rattle.lists.proofs.Places.{list-below}
 use Rattle.lists.proofs.Fill.{fill-at}
 use Rattle.model.specs.Plan.{Lines, Slot}
 use Rattle.model.specs.Bus.{slot-ticks, round, slot-of, offset-among, offset}
-use Rattle.model.specs.Refusals.{outside, nothing, wrong-counts, plan-refusal}
+use Rattle.model.specs.Refusals.{nothing, plan-refusal}
 use Rattle.laws.proofs.Good.{Good, pass, good}
-use Rattle.laws.proofs.Slots.{slot-ticks-one, slot-in-round, round-most}
+use Rattle.laws.proofs.Slots.{round-one, round-most}
 use Rattle.plan.specs.declared.Plan.{Plan}
 use Rattle.plan.specs.Memory.{lines}
 use Rattle.plan.specs.Tables.{slots-table}
 use Rattle.plan.proofs.TestsOnLines.{Few, few, counts-same, slots-length, slot-node, slot-room, room-same}
 use Rattle.bus_timetable.specs.declared.Timetable.{Timetable}
-use Rattle.bus_timetable.specs.Bus.{ticks-of, ticks-before, Short, Small, table-of, timetable}
+use Rattle.bus_timetable.specs.Bus.{reciprocal-of, ticks-of, ticks-before, Short, Small, Lasting, table-of, timetable}
 
 abbrev none : Slot
 none = record { node = 0; bytes = 0 }
@@ -91,11 +90,15 @@ module _ (p : Plan) (h : plan-refusal (lines p) ≡ nothing) where
   unfolding offset
   rounds-same = before-same 8 ∙ before-all (lines p) 8 (lines p .slots) node-below
 
+  pub lasting : Lasting (p .line) (slots-table p .node) (slots-table p .bytes) (p .slots)
+  lasting = record { one = omega (arith, rounds-same, round-one (lines p) kept); most = omega (arith, rounds-same, round-most (lines p) kept) }
+
   pub timetable-same : table-of (p .line) (slots-table p .node) (slots-table p .bytes) (p .slots) ≡ timetable (lines p)
   unfolding table-of timetable slot-ticks
   timetable-same = λ j.
       record {
         round = rounds-same j;
+        reciprocal = reciprocal-of (rounds-same j);
         offset = fill 8 (λ n. before-same n j) (sym (slots-length p) j);
         ticks = fill 8 (λ n. (ap (ticks-of (p .line)) (room-same p fits n) ∙ ticks-same _) j) (sym (slots-length p) j);
         bytes = fill 8 (λ n. room-same p fits n j) (sym (slots-length p) j);
@@ -104,6 +107,7 @@ module _ (p : Plan) (h : plan-refusal (lines p) ≡ nothing) where
 -- What a timetable says of a plan's bus, number by number.
 pub record Timed (p : Lines) (t : Timetable) : Type 0 where
   pub rounds : t .round ≡ round p
+  pub reciprocals : t .reciprocal ≡ reciprocal-of (t .round)
   pub offsets : (n : ℕ) → n < length (p .slots) → getD (t .offset) n 0 ≡ offset p n
   pub lasts : (n : ℕ) → n < length (p .slots) → getD (t .ticks) n 0 ≡ slot-ticks p (slot-of p n)
   pub rooms : (n : ℕ) → n < length (p .slots) → getD (t .bytes) n 0 ≡ slot-of p n .bytes
@@ -113,25 +117,20 @@ pub record Timed (p : Lines) (t : Timetable) : Type 0 where
 
 module _ (p : Lines) (h : plan-refusal p ≡ nothing) where
   pub some-slot : 1 ≤ length (p .slots)
-  unfolding plan-refusal wrong-counts outside
-  some-slot =
-      let a = neither _ _ (neither _ _ (neither _ _ (pass 2 _ _ h .0) .0) .0) in
-      ltb-false (length (p .slots)) 1 (neither _ _ (a .0) .0)
+  some-slot = good p h .some-slot
 
   pub timed : Timed p (timetable p)
   unfolding timetable offset
   timed =
       let g = good p h in
       let few = g .few-slots in
-      let m = in-getD (p .slots) 0 none some-slot in
-      let one = slot-ticks-one p g (getD (p .slots) 0 none) m in
-      let least = slot-in-round p g (getD (p .slots) 0 none) m in
       record {
         rounds = refl;
+        reciprocals = refl;
         offsets = λ n l. fill-at 8 (offset p) (length (p .slots)) n few l;
         lasts = λ n l. fill-at 8 (λ n. slot-ticks p (slot-of p n)) (length (p .slots)) n few l;
         rooms = λ n l. fill-at 8 (λ n. slot-of p n .bytes) (length (p .slots)) n few l;
-        round-one = omega (arith, one, least);
+        round-one = round-one p g;
         round-most = round-most p g;
         offset-most = λ n l. omega (arith, fill-at 8 (offset p) (length (p .slots)) n few l, before-most p n (p .slots));
       }

@@ -2,21 +2,29 @@
 // beginning of it from a tick on.
 // Document 01: "a round is the sum of its slots; round 0 begins at tick 0." Document 02, point 1: "a slot lasts
 // (bytes + head) × byte ticks."
+mod reciprocal;
+mod search;
+
+use crate::reciprocal::find_reciprocal;
 use limits::NODES;
 use limits::NONODE;
 use plan::Plan;
 use plan::PlanLine;
 use plan::slot_table;
+pub use search::first_beginning;
+pub use search::round_beginning;
 ghost use mathlib.Core.Path.{_≡_};
-ghost use Prim.Native.Nat.{_<_, _≤_};
+ghost use Prim.Native.Nat.{_≤_};
 ghost use Rattle.limits.specs.Limits.{BYTES};
 ghost use Rattle.model.specs.Refusals.{nothing, plan-refusal};
 ghost use Rattle.plan.specs.Memory.{lines};
-ghost use Rattle.bus_timetable.specs.Bus.{beginning-at, ticks-of, Short, Small, Placed, table-of, timetable};
+ghost use Rattle.bus_timetable.specs.Bus.{ticks-of, Short, Small, Lasting, Placed, table-of, timetable};
 
-// The ticks of a round and, by node, the ticks from its beginning to the node's slot, the slot's ticks and its bytes.
+// The ticks of a round, their reciprocal and, by node, the ticks from a round's beginning to the node's slot, the
+// slot's ticks and its bytes.
 pub struct Timetable {
     pub round: u32,
+    pub reciprocal: u32,
     pub offset: [u32; NODES],
     pub ticks: [u32; NODES],
     pub bytes: [u32; NODES],
@@ -26,19 +34,6 @@ pub struct Timetable {
 struct Place {
     offset: u32,
     bytes: u32,
-}
-
-// The first beginning, at or after a tick, of a slot that lies `offset` ticks into each round.
-pub fn first_beginning(round: u32, offset: u32, tick: u32) -> u32
-    requires { ⌜ (0 < round) × (round < 4194304) × (offset < 4194304) × (tick < 2147483648) ⌝ }
-    ensures { λ r. ⌜ r ≡ beginning-at round offset tick ⌝ }
-{
-    let gone = tick % round;
-    let begun = tick - gone;
-    if gone <= offset {
-        return begun + offset;
-    }
-    begun + (round + offset)
 }
 
 // The ticks that a slot of so many bytes of data lasts.
@@ -86,7 +81,7 @@ fn of_slots<'a>(
     slots: usize,
     line: PlanLine,
 ) -> Timetable
-    requires { ⌜ Small line (now bytes) slots ⌝ }
+    requires { ⌜ Small line (now bytes) slots × Lasting line (now slot) (now bytes) slots ⌝ }
     ensures { λ r. ⌜ r ≡ table-of line (now (slot .entry)) (now (bytes .entry)) slots ⌝ }
 {
     let mut offset = [0u32; NODES];
@@ -102,8 +97,10 @@ fn of_slots<'a>(
         n += 1;
     }
     let all = find(slot, bytes, slots, line, NONODE);
+    let round = all.offset;
     Timetable {
-        round: all.offset,
+        round,
+        reciprocal: find_reciprocal(round),
         offset,
         ticks,
         bytes: room,

@@ -16,6 +16,7 @@ module _ (m : MetPlan) where
       record {
         round-one = omega (arith, w .round-one);
         round-most = omega (arith, w .round-most);
+        reciprocals = w .reciprocals;
         offsets = λ r n.
             let k = met-row m r (placed-is comes r n) in
             let l : getD (b .sender) r 0 < length (p .slots) = omega (arith, w .senders-of r (k .0), node-in p (m .sound) r (k .0)) in

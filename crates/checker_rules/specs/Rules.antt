@@ -5,14 +5,15 @@
 use mathlib.Core.Path.{_≡_}
 use mathlib.Core.Bool.{Bool, not, _&&_, _||_}
 use mathlib.Core.List.{List}
-use Prim.Native.Nat.{ℕ, _-_, _<_}
+use Prim.Native.Nat.{ℕ, _-_, _≤_, _<_}
 use lib.Bits.{bitAnd}
 use lib.Dec.{eqb, leb}
 use lib.ListN.{getD}
 use Rattle.plan_index.specs.declared.PlanIndex.{PlanIndex}
+use Rattle.limits.specs.Limits.{NODES, ROUNDTICKS}
 use Rattle.log_rows.specs.Rows.{Rows}
 use Rattle.log_queries.specs.Reading.{placed-by, known-by}
-use Rattle.bus_timetable.specs.Bus.{beginning-at}
+use Rattle.bus_timetable.specs.Bus.{SCALE, beginning-at, reciprocal-of}
 use Rattle.checker_rows.specs.MetArrays.{some, start-by}
 
 -- 15: a met column has a condition that is not known by the row's tick; `conditionrow` is the row of condition 0
@@ -70,5 +71,15 @@ module _ (b : PlanIndex) (s : Rows) where
 -- a met row's slot lies in the round
 pub record Slotted (b : PlanIndex) (comes : List ℕ) : Type 0 where
   pub round-one : 0 < b .round
-  pub round-most : b .round < 4194304
-  pub offsets : (r : ℕ) → (getD comes r 0 ≡ 0 → ⊥) → getD (b .offset) (getD (b .sender) r 0) 0 < 4194304
+  pub round-most : b .round ≤ ROUNDTICKS
+  pub reciprocals : b .reciprocal ≡ reciprocal-of (b .round)
+  pub offsets : (r : ℕ) → (getD comes r 0 ≡ 0 → ⊥) → getD (b .offset) (getD (b .sender) r 0) 0 ≤ ROUNDTICKS
+
+-- a beginning of node n's slot may be looked for from a tick on
+pub record Searchable (b : PlanIndex) (n tick : ℕ) : Type 0 where
+  pub node : n < NODES
+  pub round-one : 0 < b .round
+  pub round-most : b .round ≤ ROUNDTICKS
+  pub reciprocals : b .reciprocal ≡ reciprocal-of (b .round)
+  pub offset-most : getD (b .offset) n 0 ≤ ROUNDTICKS
+  pub tick-most : tick < SCALE

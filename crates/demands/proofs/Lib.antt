@@ -3,7 +3,7 @@
 -- sound tables, those of the planner among them, and an accepted table runs as it should). Contracts has what is
 -- known of a call of each function, and Called that nothing more is. Firsts, Told, Within, OneC and PlannedC (what
 -- `riscadru_plan_table` writes, `riscadru_check_table` accepts) are what these rest on, and Listings for what is
--- answered to a printed table. PointOne, PointTwo and PointThree are document 02's points 1, 2 and 3.
+-- answered to a printed table. PointOne to PointFour are document 02's points 1 to 4.
 pub mod Contracts
 pub mod Called
 pub mod Firsts
@@ -18,3 +18,4 @@ pub mod Three
 pub mod PointOne
 pub mod PointTwo
 pub mod PointThree
+pub mod PointFour

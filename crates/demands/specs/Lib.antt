@@ -7,3 +7,4 @@ pub mod Three
 pub mod PointOne
 pub mod PointTwo
 pub mod PointThree
+pub mod PointFour

@@ -9,15 +9,15 @@ use Prim.Native.Nat.{ℕ, suc, _+_, _-_, _*_, _/_, _%_, _≤_, _<_}
 use native.Mathlib.Nat.{mul-pos, mod-lt, div-add-mod', mul-add-mod-self-right, mod-eq-of-lt, mul-le-mul}
 use native.Mathlib.Omega.{arith}
 use lib.Dec.{eqb, leb, ltb}
-use lib.ListN.{length}
+use lib.ListN.{length, getD}
 use borrow.Author.Tests.{eq-eqb, eqb-true, leb-true, leb-false, ltb-true, ltb-false}
 use Rattle.limits.specs.Limits.{SLOTTICKS, ROUNDTICKS}
 use Rattle.lists.specs.Lists.{if_then_else_, any, sum, repeated}
 use Rattle.lists.proofs.Tests.{two, clash, neither}
-use Rattle.lists.proofs.Members.{in-any, in-map, keep-in, in-keep}
+use Rattle.lists.proofs.Members.{in-any, in-map, keep-in, in-keep, in-getD}
 use Rattle.lists.proofs.Sums.{sum-in, sum-most-in}
 use Rattle.model.specs.Plan.{Lines, Slot, process}
-use Rattle.model.specs.Bus.{slot-ticks, round, slot-among, slot-of, offset-among, offset, first-beginning, begins, beginning}
+use Rattle.model.specs.Bus.{slot-ticks, round, slot-among, slot-of, offset-among, offset, round-beginning, first-beginning, begins, beginning}
 use Rattle.laws.proofs.Good.{Good}
 
 own-slot : (b : Slot) (ss : List Slot) → repeated (map (λ s. s .node) ss) ≡ false → In b ss → slot-among ss (b .node) ≡ b
@@ -162,6 +162,19 @@ module _ (p : Lines) where
 
     pub slot-in-round : (s : Slot) → In s (p .slots) → slot-ticks p s ≤ round p
     slot-in-round s m = sum-in (slot-ticks p s) (map (slot-ticks p) (p .slots)) (in-map (slot-ticks p) m)
+
+    pub round-one : 1 ≤ round p
+    round-one =
+        let s : Slot = getD (p .slots) 0 (record { node = 0; bytes = 0 }) in
+        let m = in-getD (p .slots) 0 (record { node = 0; bytes = 0 }) (g .some-slot) in
+        omega (arith, slot-ticks-one s m, slot-in-round s m)
+
+    -- "the beginning of the current round": that of a round, at or before the tick, and less than a round before it
+    pub round-current : (t : ℕ) → (round-beginning p t ≡ t / round p * round p) × (round-beginning p t ≤ t) × (t < round-beginning p t + round p)
+    round-current t =
+        let s : t / round p * round p + t % round p ≡ t = div-add-mod' t (round p) in
+        let r : t % round p < round p = mod-lt t round-one in
+        (omega (arith, s), omega arith, omega (arith, s, r))
 
     pub slot-own : (b : Slot) → In b (p .slots) → slot-of p (b .node) ≡ b
     unfolding slot-of

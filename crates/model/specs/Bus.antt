@@ -1,4 +1,5 @@
--- Document 01, "The bus": slots, rounds, and the rows of what is placed on units and on the bus.
+-- Document 01, "The bus": slots, rounds, and the rows of what is placed on units and on the bus. Document 02, points 1
+-- and 4: slots with a head, and the slot search.
 -- Assumes nothing.
 use Prim.Native.Nat.{ℕ, _+_, _-_, _*_, _%_}
 use mathlib.Core.Bool.{Bool}
@@ -31,12 +32,14 @@ offset-among p (s ∷ ss) n = if eqb (s .node) n then 0 else slot-ticks p s + of
 unfoldable pub offset : Lines → ℕ → ℕ
 offset p n = offset-among p (p .slots) n
 
--- The first beginning of a node's slot at or after a tick, "round 0 begins at tick 0": in the round of the tick if that
--- is not past, or else in the next.
+-- Document 02, point 4: "the beginning of the current round", the one that tick t lies in; "round 0 begins at tick 0"
+abbrev pub round-beginning : Lines → ℕ → ℕ
+round-beginning p t = t - t % round p
+
+-- Document 02, point 4: "The search gives the first beginning of a node's slot at or after a tick": in the round of the
+-- tick if that is not past, or else in the next.
 unfoldable pub first-beginning : Lines → ℕ → ℕ → ℕ
-first-beginning p n t =
-    let gone : ℕ = t % round p in
-    (t - gone) + (if leb gone (offset p n) then offset p n else round p + offset p n)
+first-beginning p n t = round-beginning p t + (if leb (t % round p) (offset p n) then offset p n else round p + offset p n)
 
 -- a node's slot begins at a tick; the slots that begin at it
 unfoldable pub begins : Lines → ℕ → ℕ → Bool

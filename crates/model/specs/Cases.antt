@@ -8,6 +8,7 @@ use mathlib.Core.List.{List, [], _∷_, _++_, map}
 use native.Mathlib.Omega.{arith}
 use lib.ListN.{take, drop, set, replicate}
 use Rattle.model.specs.Plan.{Lines, PlanLine, Pick, by-urgency, by-number, waits-all, waits-any, Slot, Process, Edge, When, always, on, with-head}
+use Rattle.model.specs.Bus.{round-beginning, first-beginning}
 use Rattle.model.specs.Log.{delay, full-ticks}
 use Rattle.model.specs.Planning.{planned}
 use Rattle.model.specs.Refusals.{Refusal, nothing, refused}
@@ -31,6 +32,8 @@ pub data Question : Type 0 where
   delay-in : Lines → List Bool → Question
   passes : Lines → Question
   passes-in-all : Lines → Question
+  first-slot : Lines → ℕ → ℕ → Question
+  current-round : Lines → ℕ → Question
   lent : Lines → ℕ → ℕ → Question
   leaves : Lines → List ℕ → List ℕ → List ℕ → Question
   writes : Lines → ℕ → Question
@@ -72,6 +75,8 @@ outcome (worst p) = number (result p .delay)
 outcome (delay-in p c) = number (delay p (full-ticks p) (planned p c .log))
 outcome (passes p) = list (result p .passed)
 outcome (passes-in-all p) = number (pass-over-count p)
+outcome (first-slot p n t) = number (first-beginning p n t)
+outcome (current-round p t) = number (round-beginning p t)
 outcome (lent p w f) = number (answer-number (plan-answer p w f))
 outcome (leaves p ws fs ns) =
     let a : Answer = plan-answer p (lib.ListN.length ws) (lib.ListN.length fs) in
@@ -412,6 +417,33 @@ passed-nodes =
     ∷ case (states crossed (crossed-stating 3 0)) (number 22)
     ∷ []
 
+-- Document 02, point 4: "Slot search without division." "The search gives the first beginning of a node's slot at or
+-- after a tick." Of S, whose round lasts 8 ticks, and of plans with a head and with slots that do not stand in node
+-- order.
+abbrev pub slot-searches : List Case
+slot-searches =
+    -- a beginning equal to the tick is the first at or after it; one tick later it is a round later
+    case (first-slot S 0 0) (number 0)
+    ∷ case (first-slot S 0 1) (number 8)
+    ∷ case (first-slot S 0 8) (number 8)
+    ∷ case (first-slot S 1 0) (number 4)
+    ∷ case (first-slot S 1 4) (number 4)
+    ∷ case (first-slot S 1 5) (number 12)
+    -- far from tick 0: rounds begin at multiples of 8
+    ∷ case (first-slot S 0 100000) (number 100000)
+    ∷ case (first-slot S 0 100001) (number 100008)
+    ∷ case (first-slot S 1 999999999) (number 1000000004)
+    -- with a head of one byte a round lasts 12 ticks; in `crossed` node 1's slot is the first
+    ∷ case (first-slot (with-head S 1) 1 7) (number 18)
+    ∷ case (first-slot crossed 0 2) (number 3)
+    ∷ case (first-slot crossed 1 2) (number 2)
+    -- the beginning of the current round: the last tick of a round, the first of the next, and far from tick 0
+    ∷ case (current-round S 7) (number 0)
+    ∷ case (current-round S 8) (number 8)
+    ∷ case (current-round S 100007) (number 100000)
+    ∷ case (current-round (with-head S 1) 100007) (number 99996)
+    ∷ []
+
 abbrev pub Hold : List Case → Type 0
 Hold cases = map (λ x. outcome (x .asked)) cases ≡ map (λ x. x .stated) cases
 
@@ -438,6 +470,10 @@ printed-tables-hold = refl
 pub passed-nodes-hold : Hold passed-nodes
 unfolding computing
 passed-nodes-hold = refl
+
+pub slot-searches-hold : Hold slot-searches
+unfolding computing
+slot-searches-hold = refl
 
 -- S's listing states S's table.
 pub S-states : States S (text "(delay 34)\n(passed (node 0) 0)\n(passed (node 1) 0)\n(start 0 (when) (at 0))\n(start 1 (when (true 0)) (at 20))\n(start 2 (when (false 0)) (at 12))\n(start 3 (when (false 0)) (at 17))\n(start 3 (when (true 0)) (at 32))\n(send 0 (when (true 0)) (at 16) (place 0))\n(send 2 (when (true 0)) (at 28) (place 0))\n(tell 0 (when) (at 8) (place 0))\n(frame 8 (node 0) (bytes 1))\n(frame 16 (node 0) (bytes 1))\n(frame 28 (node 1) (bytes 2))\n") (stating 34 0 words-S frames-S)

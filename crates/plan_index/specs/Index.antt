@@ -9,7 +9,7 @@ use Rattle.plan_index.specs.declared.PlanIndex.{PlanIndex}
 
 -- how many numbers a plan index has
 abbrev pub WORDS : ℕ
-WORDS = 2170
+WORDS = 2179
 
 -- the n numbers of a list from a place on, 0 past its end
 unfoldable pub field : List ℕ → ℕ → ℕ → List ℕ
@@ -25,29 +25,31 @@ laid b =
       slots = getD b 3 0;
       conditionrow = getD b 4 0;
       rows = getD b 5 0;
-      node = field b 7 64;
-      ticks = field b 71 64;
-      asany = field b 135 64;
-      from = field b 199 128;
-      knownby = field b 327 128;
-      remote = field b 455 128;
-      bytes = field b 583 128;
-      kind = field b 711 128;
-      condition = field b 839 128;
-      decider = field b 967 6;
-      intofirst = field b 973 65;
-      into = field b 1038 128;
-      dispatchfirst = field b 1166 65;
-      dispatch = field b 1231 128;
-      queuefirst = field b 1359 65;
-      queue = field b 1424 128;
+      node = field b 8 64;
+      ticks = field b 72 64;
+      asany = field b 136 64;
+      from = field b 200 128;
+      knownby = field b 328 128;
+      remote = field b 456 128;
+      bytes = field b 584 128;
+      kind = field b 712 128;
+      condition = field b 840 128;
+      decider = field b 968 6;
+      intofirst = field b 974 65;
+      into = field b 1039 128;
+      dispatchfirst = field b 1167 65;
+      dispatch = field b 1232 128;
+      queuefirst = field b 1360 65;
+      queue = field b 1425 128;
       round = getD b 6 0;
-      offset = field b 1552 8;
-      lasts = field b 1560 8;
-      rooms = field b 1568 8;
-      span = field b 1576 198;
-      sender = field b 1774 198;
-      size = field b 1972 198;
+      reciprocal = getD b 7 0;
+      offset = field b 1553 8;
+      lasts = field b 1561 8;
+      rooms = field b 1569 8;
+      decides = field b 1577 8;
+      span = field b 1585 198;
+      sender = field b 1783 198;
+      size = field b 1981 198;
     }
 
 -- how large the numbers are, and what the arrays index
@@ -72,6 +74,7 @@ pub record Bounded (b : PlanIndex) : Type 0 where
   pub dispatch-members : (j : ℕ) → getD (b .dispatch) j 0 < PROCESSES
   pub queue-firsts : (n : ℕ) → getD (b .queuefirst) n 0 ≤ EDGES
   pub queue-edges : (j : ℕ) → getD (b .queue) j 0 < EDGES
+  pub decides-small : (n : ℕ) → getD (b .decides) n 0 < 64
   pub span-most : (row : ℕ) → getD (b .span) row 0 ≤ TICKS
   pub sender-small : (row : ℕ) → getD (b .sender) row 0 < NODES
   pub size-most : (row : ℕ) → getD (b .size) row 0 ≤ BYTES

@@ -4,6 +4,7 @@ use crate::layout::CONDITIONS_AT;
 use crate::layout::EDGES_AT;
 use crate::layout::Index;
 use crate::layout::PROCESSES_AT;
+use crate::layout::RECIPROCAL_AT;
 use crate::layout::ROUND_AT;
 use crate::layout::ROWS_AT;
 use crate::layout::SLOTS_AT;
@@ -66,4 +67,11 @@ pub fn round_of(index: &Index) -> u32
     ensures { λ r. ⌜ r ≡ laid (now (index .entry)) .round ⌝ }
 {
     index[ROUND_AT]
+}
+
+// How many rounds go into 2^31 - 1 ticks: the reciprocal of the round.
+pub fn reciprocal_of(index: &Index) -> u32
+    ensures { λ r. ⌜ r ≡ laid (now (index .entry)) .reciprocal ⌝ }
+{
+    index[RECIPROCAL_AT]
 }

@@ -3,6 +3,7 @@ use crate::layout::ASANY_AT;
 use crate::layout::BYTES_AT;
 use crate::layout::CONDITION_AT;
 use crate::layout::DECIDER_AT;
+use crate::layout::DECIDES_AT;
 use crate::layout::DISPATCH_AT;
 use crate::layout::DISPATCHFIRST_AT;
 use crate::layout::FROM_AT;
@@ -179,6 +180,14 @@ pub fn rooms_of(index: &Index, n: usize) -> u32
     ensures { λ r. ⌜ r ≡ getD (laid (now (index .entry)) .rooms) n 0 ⌝ }
 {
     index[ROOMS_AT + n]
+}
+
+// The conditions that the processes of node n decide, as a mask.
+pub fn decides_of(index: &Index, n: usize) -> u32
+    requires { ⌜ (n < NODES) × Bounded (laid (now index)) ⌝ }
+    ensures { λ r. ⌜ (r ≡ getD (laid (now (index .entry)) .decides) n 0) × (r < 64) ⌝ }
+{
+    index[DECIDES_AT + n]
 }
 
 // The ticks that a row lasts.

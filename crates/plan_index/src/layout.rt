@@ -20,7 +20,9 @@ pub const ROWS_AT: usize = CONDITIONROW_AT + 1;
 
 pub const ROUND_AT: usize = ROWS_AT + 1;
 
-pub const NODE_AT: usize = ROUND_AT + 1;
+pub const RECIPROCAL_AT: usize = ROUND_AT + 1;
+
+pub const NODE_AT: usize = RECIPROCAL_AT + 1;
 
 pub const TICKS_AT: usize = NODE_AT + PROCESSES;
 
@@ -58,7 +60,9 @@ pub const LASTS_AT: usize = OFFSET_AT + NODES;
 
 pub const ROOMS_AT: usize = LASTS_AT + NODES;
 
-pub const SPAN_AT: usize = ROOMS_AT + NODES;
+pub const DECIDES_AT: usize = ROOMS_AT + NODES;
+
+pub const SPAN_AT: usize = DECIDES_AT + NODES;
 
 pub const SENDER_AT: usize = SPAN_AT + ROWS;
 

@@ -9,6 +9,7 @@ pub use counts::conditionrow_of;
 pub use counts::conditions_of;
 pub use counts::edges_of;
 pub use counts::processes_of;
+pub use counts::reciprocal_of;
 pub use counts::round_of;
 pub use counts::rows_of;
 pub use counts::slots_of;
@@ -16,6 +17,7 @@ pub use fields::asany_of;
 pub use fields::bytes_of;
 pub use fields::condition_of;
 pub use fields::decider_of;
+pub use fields::decides_of;
 pub use fields::dispatch_of;
 pub use fields::dispatchfirst_of;
 pub use fields::from_of;
@@ -40,6 +42,7 @@ pub use layout::CONDITION_AT;
 pub use layout::CONDITIONROW_AT;
 pub use layout::CONDITIONS_AT;
 pub use layout::DECIDER_AT;
+pub use layout::DECIDES_AT;
 pub use layout::DISPATCH_AT;
 pub use layout::DISPATCHFIRST_AT;
 pub use layout::EDGES_AT;
@@ -55,6 +58,7 @@ pub use layout::OFFSET_AT;
 pub use layout::PROCESSES_AT;
 pub use layout::QUEUE_AT;
 pub use layout::QUEUEFIRST_AT;
+pub use layout::RECIPROCAL_AT;
 pub use layout::REMOTE_AT;
 pub use layout::ROOMS_AT;
 pub use layout::ROUND_AT;
@@ -106,12 +110,14 @@ pub struct PlanIndex {
     pub dispatch: [u32; EDGES],
     pub queuefirst: [u32; STARTS],
     pub queue: [u32; EDGES],
-    // the ticks of a round and, by node, the ticks from its beginning to the node's slot, the slot's ticks and its
-    // bytes
+    // the ticks of a round, their reciprocal and, by node, the ticks from a round's beginning to the node's slot, the
+    // slot's ticks, its bytes, and the conditions that the node's processes decide, as a mask
     pub round: u32,
+    pub reciprocal: u32,
     pub offset: [u32; NODES],
     pub lasts: [u32; NODES],
     pub rooms: [u32; NODES],
+    pub decides: [u32; NODES],
     // by row: the ticks that it lasts, the node that it belongs to, and its bytes on the bus
     pub span: [u32; ROWS],
     pub sender: [u32; ROWS],

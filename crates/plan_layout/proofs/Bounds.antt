@@ -29,6 +29,7 @@ bounded p b o =
       dispatch-members = o .dispatch-members;
       queue-firsts = o .queue-firsts;
       queue-edges = o .queue-members;
+      decides-small = o .decides-small;
       span-most = o .span-most;
       sender-small = o .sender-small;
       size-most = o .size-most;

@@ -26,11 +26,12 @@ use Rattle.bus_timetable.specs.Bus.{timetable}
 use Rattle.bus_timetable.proofs.TimetableOfModel.{Timed, timed}
 use Rattle.plan_index.specs.declared.PlanIndex.{PlanIndex}
 use Rattle.plan_layout.specs.LineArrays.{receiver-of, as-any-by-process, known-rows-by-edge, remote-by-edge}
+use Rattle.plan_layout.specs.NodeArrays.{decided-by-node}
 use Rattle.plan_layout.specs.RowArrays.{senders-by-row, spans-by-row, sizes-by-row}
 use Rattle.plan_layout.specs.Layout.{index-of, by-process, by-edge, by-row, plan-index}
 use Rattle.plan_layout.specs.Indexed.{Indexed}
 use Rattle.plan_layout.proofs.Columns.{few, no-process-at, no-edge-at}
-use Rattle.plan_layout.proofs.IndexOfModel.{conditionrow, all-rows, decided-by, sent, row-count, node-of, process-same, known-row-at, as-any-at, span-at, size-at, indexed}
+use Rattle.plan_layout.proofs.IndexOfModel.{conditionrow, all-rows, decided-by, decides-at, sent, row-count, node-of, process-same, known-row-at, as-any-at, span-at, size-at, indexed}
 
 module _ (p : Plan) (h : plan-refusal (lines p) ≡ nothing) where
   orders : Ordered (lines p) (orders-of (lines p))
@@ -94,6 +95,10 @@ module _ (p : Plan) (h : plan-refusal (lines p) ≡ nothing) where
   deciders : decided-by p h ≡ fill 6 (decider (lines p)) (length (lines p .conditions))
   deciders = fill-same 6 (at (p .condition)) (decider (lines p)) (p .conditions) (decider-at p) ∙ ap (fill 6 (decider (lines p))) (sym (conditions-length p))
 
+  decides : decided-by-node (decided-by p h) (processes-table p .node) (p .conditions) ≡ plan-index (lines p) .decides
+  unfolding decided-by-node plan-index
+  decides = λ j. fill 8 (λ n. decides-at p h n j) 8
+
   row-senders : senders-by-row (edges-table p .from) (decided-by p h) (processes-table p .node) (p .processes) (conditionrow p h) (all-rows p h) ≡ by-row (lines p) (row-node (lines p))
   unfolding senders-by-row row-node
   row-senders =
@@ -138,9 +143,11 @@ module _ (p : Plan) (h : plan-refusal (lines p) ≡ nothing) where
         queuefirst = orders-of (lines p) .queuefirst;
         queue = orders-of (lines p) .queue;
         round = timetable (lines p) .round;
+        reciprocal = timetable (lines p) .reciprocal;
         offset = timetable (lines p) .offset;
         lasts = timetable (lines p) .ticks;
         rooms = timetable (lines p) .bytes;
+        decides = decides j;
         span = row-spans j;
         sender = row-senders j;
         size = row-sizes j;

@@ -32,9 +32,12 @@ use Rattle.plan_order.specs.declared.orders.Orders.{Orders}
 use Rattle.plan_order.proofs.OrdersOfModel.{Ordered}
 use Rattle.bus_timetable.specs.declared.Timetable.{Timetable}
 use Rattle.bus_timetable.proofs.TimetableOfModel.{Timed, some-slot}
+use Rattle.bitset.specs.Masks.{mask-from}
+use Rattle.bitset.proofs.Built.{built-same, built-small}
 use Rattle.bitset.proofs.Numbered.{combination-bit}
 use Rattle.plan_layout.specs.Unmet.{unmet-of, value-of, unmet-by}
 use Rattle.plan_layout.specs.LineArrays.{receiver-of, knownby-of, as-any-of, as-any-by-process, known-rows-by-edge, remote-by-edge}
+use Rattle.plan_layout.specs.NodeArrays.{decided-at, decided-by-node}
 use Rattle.plan_layout.specs.RowArrays.{process-of-row, span-of-row, size-of-row, senders-by-row, spans-by-row, sizes-by-row}
 use Rattle.plan_layout.specs.Layout.{index-of}
 use Rattle.plan_layout.specs.Indexed.{Indexed}
@@ -193,6 +196,20 @@ module _ (p : Plan) (h : plan-refusal (lines p) ≡ nothing) where
       by r true = bytes-small p h (r - p .processes)
       by r false = omega arith
 
+  -- by node
+  pub decides-at : (n : ℕ) → decided-at decided-by (processes-table p .node) (p .conditions) n ≡ mask-from (λ k. eqb (process (lines p) (decider (lines p) k) .node) n) 0 (length (lines p .conditions))
+  decides-at n =
+      built-same _ (λ k. eqb (process (lines p) (decider (lines p) k) .node) n) 0 (p .conditions) (λ k l u. ap (λ (m : ℕ). eqb m n) (node-of (decider-same p h k (omega arith))))
+      ∙ ap (mask-from (λ k. eqb (process (lines p) (decider (lines p) k) .node) n) 0) (sym (conditions-length p))
+
+  decided : (n : ℕ) → n < p .slots → at (decided-by-node decided-by (processes-table p .node) (p .conditions)) n ≡ decided-at decided-by (processes-table p .node) (p .conditions) n
+  unfolding decided-by-node
+  decided n l = fill-at 8 _ 8 n (omega arith) (omega (arith, few p h .slots))
+
+  decides-small : (n : ℕ) → at (decided-by-node decided-by (processes-table p .node) (p .conditions)) n < 64
+  unfolding decided-by-node
+  decides-small = fill-all (λ x. x < 64) 8 _ 8 (omega arith) (λ n l. built-small _ 0 (p .conditions) 6 (few p h .conditions)) (omega arith)
+
   -- the slots
   slot-there : (n : ℕ) → n < length (lines p .slots) → In (slot-of (lines p) n) (lines p .slots)
   slot-there n l =
@@ -284,9 +301,11 @@ module _ (p : Plan) (h : plan-refusal (lines p) ≡ nothing) where
             dispatch-order-of = λ n l. part-same (o .dispatchfirst) (o .dispatch) n _ (w .dispatch-order n l) (w .dispatch-long);
             queue-of = λ n l. part-same (o .queuefirst) (o .queue) n _ (w .queue n l) (w .queue-long);
             rounds = m .rounds;
+            reciprocals = m .reciprocals;
             offsets = m .offsets;
             lasts-of = m .lasts;
             rooms-of = m .rooms;
+            decided = λ n l. decided n (omega (arith, slots-length p));
             spans = spans;
             senders-of = senders;
             bytes-of = sizes;
@@ -307,6 +326,7 @@ module _ (p : Plan) (h : plan-refusal (lines p) ≡ nothing) where
             few-edges = few p h .edges;
             few-conditions = few p h .conditions;
             few-slots = few p h .slots;
+            decides-small = decides-small;
             some-slot = omega (arith, some-slot (lines p) h, slots-length p);
             bytes-most = bytes-small p h;
             size-most = size-most;

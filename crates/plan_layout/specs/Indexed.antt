@@ -13,6 +13,8 @@ use Rattle.model.specs.Activity.{combinations}
 use Rattle.model.specs.Bus.{slot-ticks, round, slot-of, offset, rows, row-node, row-bytes}
 use Rattle.model.specs.Log.{full-ticks, span}
 use Rattle.model.specs.Planning.{dispatch-order, queue}
+use Rattle.bitset.specs.Masks.{mask-from}
+use Rattle.bus_timetable.specs.Bus.{reciprocal-of}
 use Rattle.log_queries.specs.Reading.{part, Within}
 use Rattle.log_queries.specs.Holding.{Holds}
 use Rattle.plan_index.specs.declared.PlanIndex.{PlanIndex}
@@ -44,9 +46,12 @@ pub record Indexed (p : Lines) (b : PlanIndex) : Type 0 where
       part (b .queue) (getD (b .queuefirst) n 0) (getD (b .queuefirst) (n + 1) 0) ≡ keep (λ e. eqb (process p (edge p e .from) .node) n && not (local p e)) (queue p)
   -- the bus
   pub rounds : b .round ≡ round p
+  pub reciprocals : b .reciprocal ≡ reciprocal-of (b .round)
   pub offsets : (n : ℕ) → n < length (p .slots) → getD (b .offset) n 0 ≡ offset p n
   pub lasts-of : (n : ℕ) → n < length (p .slots) → getD (b .lasts) n 0 ≡ slot-ticks p (slot-of p n)
   pub rooms-of : (n : ℕ) → n < length (p .slots) → getD (b .rooms) n 0 ≡ slot-of p n .bytes
+  -- the conditions that the processes of a node decide
+  pub decided : (n : ℕ) → n < length (p .slots) → getD (b .decides) n 0 ≡ mask-from (λ k. eqb (getD (b .node) (getD (b .decider) k 0) 0) n) 0 (b .conditions)
   -- by row
   pub spans : (r : ℕ) → r < rows p → getD (b .span) r 0 ≡ span p (full-ticks p) r
   pub senders-of : (r : ℕ) → r < rows p → getD (b .sender) r 0 ≡ row-node p r
@@ -66,6 +71,7 @@ pub record Indexed (p : Lines) (b : PlanIndex) : Type 0 where
   pub decider-small : (k : ℕ) → getD (b .decider) k 0 < 64
   pub sender-small : (r : ℕ) → getD (b .sender) r 0 < 8
   -- how large the numbers are
+  pub decides-small : (n : ℕ) → getD (b .decides) n 0 < 64
   pub few-processes : b .processes ≤ 64
   pub few-edges : b .edges ≤ 128
   pub few-conditions : b .conditions ≤ 6

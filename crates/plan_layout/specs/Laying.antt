@@ -14,17 +14,17 @@ pub record Stored (at n : ℕ) (numbers before after : List ℕ) : Type 0 where
 
 -- the counts of a plan index
 abbrev pub counts : PlanIndex → List ℕ
-counts b = b .processes ∷ b .edges ∷ b .conditions ∷ b .slots ∷ b .conditionrow ∷ b .rows ∷ b .round ∷ []
+counts b = b .processes ∷ b .edges ∷ b .conditions ∷ b .slots ∷ b .conditionrow ∷ b .rows ∷ b .round ∷ b .reciprocal ∷ []
 
 -- the arrays of a kind are stored one after another, and how long each is
 pub record Processes-laid (b : PlanIndex) (before after : List ℕ) : Type 0 where
-  pub stores : after ≡ sets (sets (sets before 7 (b .node)) 71 (b .ticks)) 135 (b .asany)
+  pub stores : after ≡ sets (sets (sets before 8 (b .node)) 72 (b .ticks)) 136 (b .asany)
   pub node-long : length (b .node) ≡ 64
   pub ticks-long : length (b .ticks) ≡ 64
   pub asany-long : length (b .asany) ≡ 64
 
 pub record Edges-laid (b : PlanIndex) (before after : List ℕ) : Type 0 where
-  pub stores : after ≡ sets (sets (sets (sets (sets (sets (sets before 199 (b .from)) 327 (b .knownby)) 455 (b .remote)) 583 (b .bytes)) 711 (b .kind)) 839 (b .condition)) 967 (b .decider)
+  pub stores : after ≡ sets (sets (sets (sets (sets (sets (sets before 200 (b .from)) 328 (b .knownby)) 456 (b .remote)) 584 (b .bytes)) 712 (b .kind)) 840 (b .condition)) 968 (b .decider)
   pub from-long : length (b .from) ≡ 128
   pub knownby-long : length (b .knownby) ≡ 128
   pub remote-long : length (b .remote) ≡ 128
@@ -34,7 +34,7 @@ pub record Edges-laid (b : PlanIndex) (before after : List ℕ) : Type 0 where
   pub decider-long : length (b .decider) ≡ 6
 
 pub record Orders-laid (b : PlanIndex) (before after : List ℕ) : Type 0 where
-  pub stores : after ≡ sets (sets (sets (sets (sets (sets before 973 (b .intofirst)) 1038 (b .into)) 1166 (b .dispatchfirst)) 1231 (b .dispatch)) 1359 (b .queuefirst)) 1424 (b .queue)
+  pub stores : after ≡ sets (sets (sets (sets (sets (sets before 974 (b .intofirst)) 1039 (b .into)) 1167 (b .dispatchfirst)) 1232 (b .dispatch)) 1360 (b .queuefirst)) 1425 (b .queue)
   pub intofirst-long : length (b .intofirst) ≡ 65
   pub into-long : length (b .into) ≡ 128
   pub dispatchfirst-long : length (b .dispatchfirst) ≡ 65
@@ -43,13 +43,14 @@ pub record Orders-laid (b : PlanIndex) (before after : List ℕ) : Type 0 where
   pub queue-long : length (b .queue) ≡ 128
 
 pub record Bus-laid (b : PlanIndex) (before after : List ℕ) : Type 0 where
-  pub stores : after ≡ sets (sets (sets before 1552 (b .offset)) 1560 (b .lasts)) 1568 (b .rooms)
+  pub stores : after ≡ sets (sets (sets (sets before 1553 (b .offset)) 1561 (b .lasts)) 1569 (b .rooms)) 1577 (b .decides)
   pub offset-long : length (b .offset) ≡ 8
   pub lasts-long : length (b .lasts) ≡ 8
   pub rooms-long : length (b .rooms) ≡ 8
+  pub decides-long : length (b .decides) ≡ 8
 
 pub record Rows-laid (b : PlanIndex) (before after : List ℕ) : Type 0 where
-  pub stores : after ≡ sets (sets (sets before 1576 (b .span)) 1774 (b .sender)) 1972 (b .size)
+  pub stores : after ≡ sets (sets (sets before 1585 (b .span)) 1783 (b .sender)) 1981 (b .size)
   pub span-long : length (b .span) ≡ 198
   pub sender-long : length (b .sender) ≡ 198
   pub size-long : length (b .size) ≡ 198

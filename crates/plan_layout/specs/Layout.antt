@@ -3,8 +3,9 @@
 -- Assumes nothing.
 use mathlib.Core.List.{List}
 use Prim.Native.Nat.{ℕ, suc, _+_, _≤_, _<_}
+use lib.Dec.{eqb}
 use lib.ListN.{length}
-use Rattle.limits.specs.Limits.{PROCESSES, CONDITIONS, EDGES, ROWS}
+use Rattle.limits.specs.Limits.{NODES, PROCESSES, CONDITIONS, EDGES, ROWS}
 use Rattle.lists.specs.Lists.{if_then_else_, fill}
 use Rattle.model.specs.Plan.{Lines, process, edge, decider, local, unit}
 use Rattle.model.specs.Activity.{conjunction}
@@ -14,12 +15,14 @@ use Rattle.plan.specs.declared.tables.ProcessTable.{ProcessTable}
 use Rattle.plan.specs.declared.tables.EdgeTable.{EdgeTable}
 use Rattle.plan.specs.Kinds.{kind-of, condition-of}
 use Rattle.plan.specs.Tests.{at}
+use Rattle.bitset.specs.Masks.{mask-from}
 use Rattle.log_queries.specs.Holding.{known-row}
 use Rattle.plan_order.specs.declared.orders.Orders.{Orders}
 use Rattle.plan_order.specs.Orders.{orders-of}
 use Rattle.bus_timetable.specs.declared.Timetable.{Timetable}
 use Rattle.bus_timetable.specs.Bus.{timetable}
 use Rattle.plan_layout.specs.LineArrays.{as-any-by-process, known-rows-by-edge, remote-by-edge}
+use Rattle.plan_layout.specs.NodeArrays.{decided-by-node}
 use Rattle.plan_layout.specs.RowArrays.{senders-by-row, spans-by-row, sizes-by-row}
 use Rattle.plan_index.specs.declared.PlanIndex.{PlanIndex}
 
@@ -61,9 +64,11 @@ index-of processes edges conditions slots q e o t decider =
       queuefirst = o .queuefirst;
       queue = o .queue;
       round = t .round;
+      reciprocal = t .reciprocal;
       offset = t .offset;
       lasts = t .ticks;
       rooms = t .bytes;
+      decides = decided-by-node decider (q .node) conditions;
       span =
           spans-by-row (q .ticks) (t .ticks) (senders-by-row (e .from) decider (q .node) processes (processes + edges) (processes + edges + conditions)) processes
           (processes + edges + conditions);
@@ -110,9 +115,11 @@ plan-index p =
       queuefirst = o .queuefirst;
       queue = o .queue;
       round = t .round;
+      reciprocal = t .reciprocal;
       offset = t .offset;
       lasts = t .ticks;
       rooms = t .bytes;
+      decides = fill NODES (λ n. mask-from (λ k. eqb (process p (decider p k) .node) n) 0 (length (p .conditions))) NODES;
       span = by-row p (span p (full-ticks p));
       sender = by-row p (row-node p);
       size = by-row p (row-bytes p);

@@ -1,4 +1,5 @@
 pub mod LineArrays
+pub mod NodeArrays
 pub mod RowArrays
 pub mod Unmet
 pub mod Layout

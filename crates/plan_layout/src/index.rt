@@ -3,6 +3,7 @@ use crate::index_words::lay_out;
 use crate::line_arrays::counted_as_any;
 use crate::line_arrays::known_rows;
 use crate::line_arrays::remotes;
+use crate::node_arrays::decided_by_node;
 use crate::row_arrays::row_senders;
 use crate::row_arrays::row_sizes;
 use crate::row_arrays::row_spans;
@@ -81,7 +82,9 @@ fn laid_out(
     let sender = row_senders(&from, &decider, &node, processes, conditionrow, rows);
     let span = row_spans(&ticks, &lasts, &sender, processes, rows);
     let size = row_sizes(&bytes, processes, conditionrow, rows);
+    let decides = decided_by_node(&decider, &node, conditions);
     let round = t.round;
+    let reciprocal = t.reciprocal;
     PlanIndex {
         processes,
         edges,
@@ -106,9 +109,11 @@ fn laid_out(
         queuefirst,
         queue,
         round,
+        reciprocal,
         offset,
         lasts,
         rooms,
+        decides,
         span,
         sender,
         size,

@@ -11,6 +11,7 @@ use plan_index::CONDITION_AT;
 use plan_index::CONDITIONROW_AT;
 use plan_index::CONDITIONS_AT;
 use plan_index::DECIDER_AT;
+use plan_index::DECIDES_AT;
 use plan_index::DISPATCH_AT;
 use plan_index::DISPATCHFIRST_AT;
 use plan_index::EDGES_AT;
@@ -27,6 +28,7 @@ use plan_index::PROCESSES_AT;
 use plan_index::PlanIndex;
 use plan_index::QUEUE_AT;
 use plan_index::QUEUEFIRST_AT;
+use plan_index::RECIPROCAL_AT;
 use plan_index::REMOTE_AT;
 use plan_index::ROOMS_AT;
 use plan_index::ROUND_AT;
@@ -55,6 +57,7 @@ fn lay_counts(b: PlanIndex, index: &mut Index)
     index[CONDITIONROW_AT] = b.conditionrow as u32;
     index[ROWS_AT] = b.rows as u32;
     index[ROUND_AT] = b.round;
+    index[RECIPROCAL_AT] = b.reciprocal;
 }
 
 // Stores the arrays by process.
@@ -91,13 +94,14 @@ fn lay_by_orders(b: PlanIndex, index: &mut Index)
     lay_edges(&b.queue, QUEUE_AT, index);
 }
 
-// Stores where the slots lie.
+// Stores where the slots lie, and which conditions each node decides.
 fn lay_by_bus(b: PlanIndex, index: &mut Index)
     ensures { λ _. ⌜ Bus-laid b (now (index .entry)) (now (index .exit)) ⌝ }
 {
     lay_nodes(&b.offset, OFFSET_AT, index);
     lay_nodes(&b.lasts, LASTS_AT, index);
     lay_nodes(&b.rooms, ROOMS_AT, index);
+    lay_nodes(&b.decides, DECIDES_AT, index);
 }
 
 // Stores the arrays by row.

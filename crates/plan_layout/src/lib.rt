@@ -5,6 +5,7 @@ mod index;
 mod index_words;
 mod laying;
 mod line_arrays;
+mod node_arrays;
 mod row_arrays;
 mod unmet_whens;
 

@@ -1,8 +1,9 @@
--- The first beginning of a slot at or after a tick is the first one at or after each tick from there up to it; and what
--- arrives with a slot that began before has arrived when another begins.
+-- The first beginning of a slot at or after a tick is the first one at or after each tick from there up to it; behind a
+-- beginning the next one is a round later; and what arrives with a slot that began before has arrived when another
+-- begins.
 -- Assumes nothing.
 use Prim.Native.Nat.{ℕ, suc, _+_, _-_, _*_, _/_, _%_, _≤_, _<_}
-use mathlib.Core.Path.{_≡_, sym, ap, _∙_}
+use mathlib.Core.Path.{_≡_, refl, sym, ap, _∙_}
 use mathlib.Core.Logic.{_⊎_, inl, inr}
 use mathlib.Core.Bool.{Bool, true, false}
 use native.Mathlib.Nat.{mod-lt, div-add-mod', mul-add-mod-self-right, mod-eq-of-lt}
@@ -12,6 +13,7 @@ use borrow.Author.Tests.{leb-true, leb-false, le-leb, lt-leb, ltb-true, ltb-fals
 use Rattle.lists.specs.Lists.{if_then_else_}
 use Rattle.lists.proofs.Tests.{two}
 use Rattle.bus_timetable.specs.Bus.{beginning-at}
+use Rattle.planner_sends.specs.NextSends.{next-send-from, next-round}
 use Rattle.plan_index.specs.declared.PlanIndex.{PlanIndex}
 use Rattle.planner_combination.specs.Events.{begins-by, Fits}
 use Rattle.planner_combination.specs.Kept.{Past, past, under-way}
@@ -60,6 +62,45 @@ module _ (R o : ℕ) where
           let n : t / R * R + R ≤ w = ltb-false _ _ k in
           let f : beginning-at R o t ≡ t / R * R + (R + o) = late (t / R) t (omega (arith, s, m)) (omega (arith, s, r)) in
           early (suc (t / R)) w (omega (arith, next)) (omega (arith, next, f)) l ∙ (let z = next in omega arith) ∙ sym f
+
+  -- behind a beginning the next one is a round later
+  pub beginning-next : o < R → (t : ℕ) → beginning-at R o t ≡ t → beginning-at R o (t + 1) ≡ t + R
+  beginning-next l t e = at (two (leb (t % R) o)) (two (ltb (o + 1) R))
+    where
+      s : t / R * R + t % R ≡ t
+      s = div-add-mod' t R
+
+      r : t % R < R
+      r = mod-lt t (omega arith)
+
+      next : suc (t / R) * R ≡ t / R * R + R
+      next = omega arith
+
+      later : t ≡ t / R * R + o → (ltb (o + 1) R ≡ true) ⊎ (ltb (o + 1) R ≡ false) → beginning-at R o (t + 1) ≡ t + R
+      later q (inl d) =
+          let b : o + 1 < R = ltb-true (o + 1) R d in
+          late (t / R) (t + 1) (omega (arith, q)) (omega (arith, q, b)) ∙ omega (arith, q)
+      later q (inr d) =
+          let b : R ≤ o + 1 = ltb-false (o + 1) R d in
+          early (suc (t / R)) (t + 1) (omega (arith, q, next, l, b)) (omega (arith, q, next, b)) l ∙ omega (arith, q, next)
+
+      at : (leb (t % R) o ≡ true) ⊎ (leb (t % R) o ≡ false) → (ltb (o + 1) R ≡ true) ⊎ (ltb (o + 1) R ≡ false) → beginning-at R o (t + 1) ≡ t + R
+      at (inl c) k =
+          let f : beginning-at R o t ≡ t / R * R + o = early (t / R) t (omega (arith, s)) (omega (arith, s, leb-true (t % R) o c)) l in
+          later (omega (arith, f, e)) k
+      at (inr c) k =
+          let m : o < t % R = leb-false _ _ c in
+          let f : beginning-at R o t ≡ t / R * R + (R + o) = late (t / R) t (omega (arith, s, m)) (omega (arith, s, r)) in
+          absurd (omega (arith, f, e, s, r))
+
+  -- so the slot that begins at a clock next takes an item a round later
+  pub next-round-same : o < R → (u : ℕ) → 1 ≤ u → beginning-at R o (u - 1) ≡ u - 1 → (left : Bool) → next-round R u left ≡ next-send-from R o u left
+  unfolding next-round next-send-from
+  next-round-same l u a e true =
+      let q : u - 1 + 1 ≡ u = omega arith in
+      let n : beginning-at R o u ≡ u - 1 + R = ap (beginning-at R o) (sym q) ∙ beginning-next l (u - 1) e in
+      omega (arith, n, a)
+  next-round-same l u a e false = refl
 
 pub past-later : (b : PlanIndex) (u w x : ℕ) → u ≤ w → Past b u x → Past b w x
 past-later b u w x l (past m) = past (omega arith)

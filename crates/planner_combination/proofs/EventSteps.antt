@@ -1,7 +1,7 @@
 -- The steps of an event one after another, by what each leaves of the rows and of what is kept by node: what the next
 -- one may be called with, and where they lead.
 -- Assumes nothing.
-use Prim.Native.Nat.{ℕ, _≤_, _<_}
+use Prim.Native.Nat.{ℕ, _-_, _≤_, _<_}
 use mathlib.Core.Path.{_≡_, refl, sym, ap, _∙_, subst}
 use mathlib.Core.List.{List}
 use native.Mathlib.Omega.{arith}
@@ -9,6 +9,7 @@ use lib.Dec.{eqb}
 use lib.ListN.{length, getD, set}
 use Rattle.lists.specs.Lists.{if_then_else_}
 use Rattle.model.specs.Listing.{bit}
+use Rattle.bus_timetable.specs.Bus.{round-beginning-at}
 use Rattle.plan_index.specs.declared.PlanIndex.{PlanIndex}
 use Rattle.log_rows.specs.Rows.{Rows, with-run}
 use Rattle.planner_nodes.specs.Nodes.{Nodes, with-noted}
@@ -18,7 +19,7 @@ use Rattle.log_queries.specs.Queries.{running-from}
 use Rattle.planner_dispatch.specs.Dispatching.{Nothing-new}
 use Rattle.planner_dispatch.specs.ChangedNodes.{Soonest}
 use Rattle.planner_sends.specs.Clocks.{new-at, sending-node-by, sooner-by, ends-now, changes-at, event-now}
-use Rattle.planner_sends.specs.NextSends.{next-send-from, update-by, pending-at, waiting-at, Updated-all, Timed, Updatable, Updates}
+use Rattle.planner_sends.specs.NextSends.{next-round, update-by, pending-at, waiting-at, Updated-all, Timed, Updatable, Updates}
 use Rattle.planner_packing.specs.Slot.{bus, fill-with, taken-in, left-with, arrive-with, Slot-sent}
 use Rattle.planner_packing.specs.declared.slot.Ends.{Ends}
 use Rattle.planner_packing.specs.Sending.{Sendable, Sends}
@@ -30,7 +31,8 @@ use Rattle.planner_combination.proofs.WholeEvent.{roomy-now, waits-now,
 
 -- when the slots of a plan index are
 pub timed : (b : PlanIndex) → Fits b → Timed b
-timed b f = record { round-one = f .round-one; round-most = f .round-most; offset-most = f .offset-most; lasts-most = f .lasts-small; queue-rising = f .queue-rising }
+timed b f =
+    record { round-one = f .round-one; round-most = f .round-most; reciprocals = f .reciprocals; decided = f .decided; offset-most = f .offset-most; lasts-most = f .lasts-small; queue-rising = f .queue-rising }
 
 module _ (b : PlanIndex) (f : Fits b) (c : Clocks) (s : Rows) (ns : Nodes) (o : At-event b c s ns) (n1 : Nodes) (noting : n1 ≡ with-noted (noted-in b s (c .broadcastend) (c .u) ns) ns)
     (s1 : Rows) (hearing : s1 ≡ with-run (running-from b s (c .u) (c .broadcastend)) s) (look : ℕ) (look-is : look ≡ changes-at (c .broadcastend) (c .ends) (c .u))
@@ -106,7 +108,7 @@ module _ (b : PlanIndex) (f : Fits b) (c : Clocks) (s : Rows) (ns : Nodes) (o : 
       waiting-there x = part (x .wait) (getD (b .queuefirst) n 0) (getD (x .waitend) n 0)
 
       module _ (r : Ends) (s3 : Rows) (n4 : Nodes) (sends : Sends b n (c .u) (record { slotend = c .slotend; broadcastend = c .broadcastend }) s2 n3 r s3 n4) (ends come u : ℕ)
-          (ends-is : ends ≡ ends-now (c .ends) first (n4 .busy) (c .u) (b .slots)) (come-is : come ≡ sooner-by ends (r .slotend) (c .u)) (u-is : u ≡ event-now (n4 .nextsend) come 8) where
+          (ends-is : ends ≡ ends-now (c .ends) first (n4 .busy) (c .u) (b .slots)) (come-is : come ≡ sooner-by ends (r .slotend) (c .u)) (u-is : u ≡ event-now (n4 .nextsend) come 8) (begun₁ : ℕ) (begun-is : begun₁ ≡ round-beginning-at (b .round) (c .u - 1)) where
         run-now : s3 .run ≡ s1 .run
         run-now = (λ i. sends .rows-rest i .run) ∙ (λ i. began .rows i .run)
 
@@ -153,7 +155,7 @@ module _ (b : PlanIndex) (f : Fits b) (c : Clocks) (s : Rows) (ns : Nodes) (o : 
         unfolding notes
         noted-is = (λ i. sends .nodes-rest i .noted) ∙ (λ i. began .nodes i .noted) ∙ (λ i. updates .rest i .noted) ∙ (λ i. noting i .noted)
 
-        pub event-done : Event-done b c s ns (record { u = u; come = come; slotend = r .slotend; broadcastend = r .broadcastend; ends = ends }) s3 n4
+        pub event-done : Event-done b c s ns (record { u = u; come = come; slotend = r .slotend; broadcastend = r .broadcastend; ends = ends; begun = begun₁ }) s3 n4
         event-done =
             let whole =
             event-whole b f (s .unmet) m (ns .lastarrival) (ns .nextsend) (o .kept) new new-then (c .ends) (o .ending) look look-is (ns .wait) (ns .waitend) (o .queued) (n2 .wait) (n2 .waitend) updated (n2 .nextsend) update-is (o .low) n sending
@@ -173,10 +175,11 @@ module _ (b : PlanIndex) (f : Fits b) (c : Clocks) (s : Rows) (ns : Nodes) (o : 
             ∙ (λ i.
             if eqb n (b .slots)
             then began .nodes i .nextsend
-            else set (began .nodes i .nextsend) n (next-send-from (b .round) (getD (b .offset) n 0) (c .u) (taken-in (b .processes) (b .conditionrow) (b .conditions) (b .decider) (b .node) (b .bytes) (b .lasts) (b .rooms) n (c .u) (waiting-there (began .nodes i)) (s2 .comes) (places-then i) .short))))
+            else set (began .nodes i .nextsend) n (next-round (b .round) (c .u) (taken-in (b .processes) (b .conditionrow) (b .conditions) (b .decider) (b .node) (b .bytes) (b .lasts) (b .rooms) n (c .u) (waiting-there (began .nodes i)) (s2 .comes) (places-then i) .short))))
             left-then first soonest ends come u ends-is come-is u-is (n4 .noted) noted-is in
             record {
               moved = whole .0;
+              begun-now = begun-is;
               unmet = (λ i. sends .rows-rest i .unmet) ∙ (λ i. began .rows i .unmet) ∙ (λ i. hearing i .unmet);
               kept = whole .1 .0;
               ending = whole .1 .1 .0;

@@ -259,6 +259,15 @@ module _ (b : PlanIndex) (f : Fits b) (unmet : List ℕ) where
             at (none-nextsend q h) = omega arith
             at (one-nextsend l q) = omega arith
 
+        -- and its slot begins
+        pub node-begins : n < b .slots → beginning-at (b .round) (getD (b .offset) n 0) (m .u - 1) ≡ m .u - 1
+        unfolding begins-by
+        node-begins o = at one
+          where
+            at : One → beginning-at (b .round) (getD (b .offset) n 0) (m .u - 1) ≡ m .u - 1
+            at (none-nextsend q h) = absurd (omega (arith, q, o))
+            at (one-nextsend l q) = eqb-true _ _ (nextsend-slot n l q)
+
         -- then each free node starts
         module _ (run : List ℕ) (run-is : run ≡ hears b unmet m) (busy rows : List ℕ) (busy-is : busy ≡ begins-with b unmet run m .busy) (rows-is : rows ≡ begins-with b unmet run m .comes) where
           abbrev at-first : Ends

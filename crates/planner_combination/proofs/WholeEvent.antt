@@ -1,7 +1,7 @@
 -- An event as a whole: what its steps leave, with the messages that wait in their array, is the next moment, and what
 -- is kept and what waits go by it.
 -- Assumes nothing.
-use Prim.Native.Nat.{ℕ, _+_, _≤_, _<_}
+use Prim.Native.Nat.{ℕ, _+_, _-_, _≤_, _<_}
 use mathlib.Core.Path.{_≡_, sym, ap, _∙_, subst}
 use mathlib.Core.Logic.{_⊎_, inl, inr}
 use mathlib.Core.Bool.{Bool, true, false}
@@ -18,12 +18,14 @@ use Rattle.planner_dispatch.specs.ChangedNodes.{Soonest}
 use Rattle.planner_sends.specs.Packing.{arrive-by}
 use Rattle.plan_index.specs.declared.PlanIndex.{PlanIndex}
 use Rattle.planner_sends.specs.Clocks.{new-at, sending-node-by, sooner-by, ends-now, changes-at, event-now}
-use Rattle.planner_sends.specs.NextSends.{next-send-from, update-by, Waiting, Roomy, Updated-all}
+use Rattle.planner_sends.specs.NextSends.{next-send-from, next-round, update-by, Waiting, Roomy, Updated-all}
 use Rattle.planner_packing.specs.Slot.{Bus, bus, taken-in, fill-with, left-with, arrive-with, fill-by, Slot-sent}
+use Rattle.bus_timetable.specs.Bus.{beginning-at}
 use Rattle.planner_combination.specs.Events.{last-event, Moment, moment, hears, begins-with, waiting, messages, notes, next, Fits}
 use Rattle.planner_combination.specs.Kept.{Kept, Queued}
 use Rattle.planner_combination.specs.Ending.{Ending}
-use Rattle.planner_combination.proofs.Keeping.{queued-now, node-low, rows-room, wait-rows, rows-arrived, broadcast-arrived, wait-comes, queued-next, event-on, ending-on}
+use Rattle.planner_combination.proofs.Beginnings.{next-round-same}
+use Rattle.planner_combination.proofs.Keeping.{queued-now, node-low, node-begins, rows-room, wait-rows, rows-arrived, broadcast-arrived, wait-comes, queued-next, event-on, ending-on}
 use Rattle.planner_combination.proofs.Queue.{chosen-same, fill-same, short-same, left-same, arrive-same, message-small, message-remote, sending-node-roomy, sending-node-own, sending-node-other}
 
 module _ (b : PlanIndex) (f : Fits b) (unmet : List ℕ) (m : Moment) (lastarrival nextsend : List ℕ) (k : Kept b unmet m lastarrival nextsend)
@@ -46,6 +48,9 @@ module _ (b : PlanIndex) (f : Fits b) (unmet : List ℕ) (m : Moment) (lastarriv
 
   node-in : n ≤ b .slots
   node-in = node-low b f unmet m lastarrival nextsend k new new-is ends ending look look-is nextsend₁ update-is low n sending-node-is
+
+  begins-now : n < b .slots → beginning-at (b .round) (getD (b .offset) n 0) (m .u - 1) ≡ m .u - 1
+  begins-now = node-begins b f unmet m lastarrival nextsend k new new-is ends ending look look-is nextsend₁ update-is low n sending-node-is
 
   module _ (run : List ℕ) (run-is : run ≡ hears b unmet m) (busy rows : List ℕ) (busy-is : busy ≡ begins-with b unmet run m .busy) (rows-is : rows ≡ begins-with b unmet run m .comes) where
     abbrev before : Bus
@@ -79,7 +84,7 @@ module _ (b : PlanIndex) (f : Fits b) (unmet : List ℕ) (m : Moment) (lastarriv
 
       module _ (lastarrival₁ nextsend₂ wait₂ waitend₂ : List ℕ)
           (arrive-list : lastarrival₁ ≡ (if eqb n (b .slots) then lastarrival else arrive-with (b .processes) (b .conditionrow) (b .conditions) (b .decider) (b .node) (b .bytes) (b .lasts) (b .rooms) n (m .u) (b .remote) (b .slots) ws rows (m .place) lastarrival))
-          (nextsend-list : nextsend₂ ≡ (if eqb n (b .slots) then nextsend₁ else set nextsend₁ n (next-send-from (b .round) (getD (b .offset) n 0) (m .u) (taken-in (b .processes) (b .conditionrow) (b .conditions) (b .decider) (b .node) (b .bytes) (b .lasts) (b .rooms) n (m .u) ws rows (m .place) .short))))
+          (nextsend-list : nextsend₂ ≡ (if eqb n (b .slots) then nextsend₁ else set nextsend₁ n (next-round (b .round) (m .u) (taken-in (b .processes) (b .conditionrow) (b .conditions) (b .decider) (b .node) (b .bytes) (b .lasts) (b .rooms) n (m .u) ws rows (m .place) .short))))
           (sending-node : Slot-sent (b .slots) n (b .queuefirst) left wait₁ waitend₁ wait₂ waitend₂)
           (first : ℕ) (soonest : length (m .busy) ≡ 8 → Soonest (b .slots) (m .u) (m .busy) busy first) (ends₁ come u : ℕ)
           (ends-is : ends₁ ≡ ends-now ends first busy (m .u) (b .slots)) (come-is : come ≡ sooner-by ends₁ slotend (m .u)) (u-is : u ≡ event-now nextsend₂ come 8) (noted : List ℕ) (noted-is : noted ≡ notes b unmet m) where
@@ -97,10 +102,11 @@ module _ (b : PlanIndex) (f : Fits b) (unmet : List ℕ) (m : Moment) (lastarriv
         nextsend-is : nextsend₂ ≡ (if eqb n (b .slots) then nextsend₁ else set nextsend₁ n (next-send-from (b .round) (getD (b .offset) n 0) (m .u) (waiting b unmet comes (m .u) n)))
         nextsend-is =
             nextsend-list
-            ∙ chosen-same n (b .slots) nextsend₁ (set nextsend₁ n (next-send-from (b .round) (getD (b .offset) n 0) (m .u) (taken-in (b .processes) (b .conditionrow) (b .conditions) (b .decider) (b .node) (b .bytes) (b .lasts) (b .rooms) n (m .u) ws rows (m .place) .short))) _ node-in
+            ∙ chosen-same n (b .slots) nextsend₁ (set nextsend₁ n (next-round (b .round) (m .u) (taken-in (b .processes) (b .conditionrow) (b .conditions) (b .decider) (b .node) (b .bytes) (b .lasts) (b .rooms) n (m .u) ws rows (m .place) .short))) _ node-in
             (λ o.
-            ap (λ (c : Bool). set nextsend₁ n (next-send-from (b .round) (getD (b .offset) n 0) (m .u) c))
-            (short-same b f unmet n (m .u) (m .slotend) (m .broadcastend) rows (m .place) (m .passed) o long ws (ws-is o) (bus slotend heard comes place passed) (left-is o)))
+            ap (λ (c : Bool). set nextsend₁ n (next-round (b .round) (m .u) c))
+            (short-same b f unmet n (m .u) (m .slotend) (m .broadcastend) rows (m .place) (m .passed) o long ws (ws-is o) (bus slotend heard comes place passed) (left-is o))
+            ∙ ap (set nextsend₁ n) (next-round-same (b .round) (getD (b .offset) n 0) (f .offset-less n o) (m .u) (k .from-one) (begins-now o) (waiting b unmet comes (m .u) n)))
 
         waits-then : (i : ℕ) → i < b .slots → Waiting (b .queuefirst) wait₂ waitend₂ i (messages b unmet comes (m .u) i)
         waits-then i l = at (two (eqb i n))

@@ -12,7 +12,8 @@ use lib.Seq.{sets}
 use Rattle.limits.specs.Limits.{TICKS, SLOTTICKS, ROUNDTICKS, LASTCLOCK}
 use Rattle.lists.specs.Lists.{if_then_else_, below, repeated}
 use Rattle.log_queries.specs.Reading.{part, edges-into, Within}
-use Rattle.bus_timetable.specs.Bus.{beginning-at}
+use Rattle.bitset.specs.Masks.{mask-from}
+use Rattle.bus_timetable.specs.Bus.{beginning-at, reciprocal-of}
 use Rattle.planner_dispatch.specs.Starts.{Ends, starts-by}
 use Rattle.planner_sends.specs.Clocks.{first-or, come-by}
 use Rattle.log_queries.specs.Hearing.{heard-by}
@@ -176,6 +177,8 @@ pub record Fits (b : PlanIndex) : Type 0 where
   pub round-most : b .round ≤ ROUNDTICKS
   pub offset-most : (n : ℕ) → n < b .slots → getD (b .offset) n 0 ≤ b .round
   pub offset-less : (n : ℕ) → n < b .slots → getD (b .offset) n 0 < b .round
+  pub reciprocals : b .reciprocal ≡ reciprocal-of (b .round)
+  pub decided : (n : ℕ) → n < b .slots → getD (b .decides) n 0 ≡ mask-from (λ k. eqb (getD (b .node) (getD (b .decider) k 0) 0) n) 0 (b .conditions)
   pub ticks-one : (i : ℕ) → i < b .processes → 1 ≤ getD (b .ticks) i 0
   pub lasts-one : (n : ℕ) → n < b .slots → 1 ≤ getD (b .lasts) n 0
   pub rows-before : b .processes ≤ b .conditionrow

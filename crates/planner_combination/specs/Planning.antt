@@ -1,11 +1,12 @@
 -- Where planning stands by a plan index, the rows of a combination and what is kept by node: what an event and the
 -- planning of a combination may begin from, and what they leave.
 -- Assumes nothing.
-use Prim.Native.Nat.{ℕ, _≤_}
+use Prim.Native.Nat.{ℕ, _-_, _≤_}
 use mathlib.Core.Path.{_≡_}
 use lib.ListN.{length, getD, replicate}
 use mathlib.Core.List.{List}
 use Rattle.limits.specs.Limits.{NODES, PROCESSES, EDGES, ROWS, LASTCLOCK}
+use Rattle.bus_timetable.specs.Bus.{round-beginning-at, Carried}
 use Rattle.plan_index.specs.declared.PlanIndex.{PlanIndex}
 use Rattle.log_rows.specs.Rows.{Rows, with-comes}
 use Rattle.planner_nodes.specs.Nodes.{Nodes, with-busy}
@@ -41,12 +42,16 @@ pub record At-event (b : PlanIndex) (c : Clocks) (s : Rows) (ns : Nodes) : Type 
   pub ending : Ending (b .slots) (c .u) (ns .busy) (c .ends)
   pub queued : Queued b (s .unmet) (moment-of c s ns) (ns .wait) (ns .waitend)
   pub low : c .u ≤ LASTCLOCK
+  -- the carried beginning is that of a round at or before the event's tick
+  pub carried : Carried (b .round) (c .begun) (c .u - 1)
   pub counts : (k : ℕ) → getD (ns .passed) k 0 ≤ c .u
   pub counts-long : length (ns .passed) ≡ NODES
 
 -- after an event planning stands at the next one, and what is kept says the truth there
 pub record Event-done (b : PlanIndex) (c : Clocks) (s : Rows) (ns : Nodes) (c′ : Clocks) (s′ : Rows) (ns′ : Nodes) : Type 0 where
   pub moved : moment-of c′ s′ ns′ ≡ next b (s .unmet) (moment-of c s ns)
+  -- the carried beginning is that of the round that this event's tick lies in
+  pub begun-now : c′ .begun ≡ round-beginning-at (b .round) (c .u - 1)
   pub unmet : s′ .unmet ≡ s .unmet
   pub kept : Kept b (s .unmet) (moment-of c′ s′ ns′) (ns′ .lastarrival) (ns′ .nextsend)
   pub ending : Ending (b .slots) (c′ .u) (ns′ .busy) (c′ .ends)

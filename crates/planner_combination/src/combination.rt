@@ -50,6 +50,7 @@ pub fn plan_combination(index: &Index, start: u32, rows: &mut Rows, nodes: &mut 
         slotend: 0,
         broadcastend: start,
         ends: start,
+        begun: 0,
     };
     while at.u <= LASTCLOCK {
         at = event(index, at, rows, nodes);

@@ -18,6 +18,7 @@ use planner_packing::Ends;
 use planner_packing::send_slot;
 use planner_sends::changed_nodes;
 use planner_sends::changes;
+use planner_sends::current_round;
 use planner_sends::ends_after;
 use planner_sends::next_event;
 use planner_sends::sending_node;
@@ -122,17 +123,19 @@ fn begin(index: &Index, come: u32, u: u32, new: u32, rows: &mut Rows, nodes: &mu
 }
 
 // Where planning stands: the clock of the event, the clock at which a row is next over, the end of the last slot used,
-// and of the last one with a broadcast, and the clock at which a process next ends.
+// and of the last one with a broadcast, the clock at which a process next ends, and the beginning of the round that the
+// event before lies in, 0 where there was none.
 pub struct Clocks {
     pub u: u32,
     pub come: u32,
     pub slotend: u32,
     pub broadcastend: u32,
     pub ends: u32,
+    pub begun: u32,
 }
 
 // One event, at the clocks of `at`: values that arrive are heard, nodes start, and the slot that begins takes its
-// items. The answer has the clocks of the next event.
+// items. The answer has the clocks of the next event, and the beginning of the round that this one lies in.
 pub(crate) fn event(index: &Index, at: Clocks, rows: &mut Rows, nodes: &mut Nodes) -> Clocks
     requires { ⌜ Fits (laid (now index)) × At-event (laid (now index)) at (rows-of (now rows))
         (nodes-of (now nodes)) ⌝ }
@@ -148,7 +151,8 @@ pub(crate) fn event(index: &Index, at: Clocks, rows: &mut Rows, nodes: &mut Node
     update_may_run(index, broadcastend, u, rows);
     let look = changes(broadcastend, ends, u);
     let new = new_nodes(nodes, come, u);
-    update_next_sends(index, rows, look, broadcastend, u, new, nodes);
+    let begun = current_round(index, at.begun, u);
+    update_next_sends(index, rows, look, broadcastend, u, new, begun, nodes);
     let first = begin(index, come, u, new, rows, nodes);
     let slots = slots_of(index);
     let n = sending_node(nodes, slots, u);
@@ -172,5 +176,6 @@ pub(crate) fn event(index: &Index, at: Clocks, rows: &mut Rows, nodes: &mut Node
         slotend: s.slotend,
         broadcastend: s.broadcastend,
         ends: ending,
+        begun,
     }
 }

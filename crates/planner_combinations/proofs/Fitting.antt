@@ -175,6 +175,8 @@ module _ (p : Lines) (passes : plan-refusal p ≡ nothing) (b : PlanIndex) (o : 
         ticks-small = o .ticks-most;
         lasts-small = λ n l. o .lasts-most n (in-slots n l);
         round-one = o .round-one;
+        reciprocals = o .reciprocals;
+        decided = λ n l. o .decided n (in-slots n l);
         round-most = o .round-most;
         offset-most = λ n l. o .offset-most n (in-slots n l);
         offset-less = λ n l. omega (arith, o .offsets n (in-slots n l), o .rounds, offset-in n (in-slots n l));

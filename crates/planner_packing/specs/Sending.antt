@@ -14,7 +14,7 @@ use Rattle.planner_nodes.specs.Nodes.{Nodes, with-passed, with-nextsend, with-l
 use Rattle.log_queries.specs.Reading.{part}
 use Rattle.planner_sends.specs.Packing.{Load, load, take-all, left-of, arrive-taken, arrive-all, broadcasts-sent, with-broadcast, Listed}
 use Rattle.planner_sends.specs.declared.broadcasts.Taken.{Taken}
-use Rattle.planner_sends.specs.NextSends.{Roomy, next-send-from}
+use Rattle.planner_sends.specs.NextSends.{Roomy, next-round}
 use Rattle.planner_packing.specs.Slot.{Bus, bus, fill-with, taken-in, left-with, arrive-with, Slot-sent}
 use Rattle.planner_packing.specs.declared.packing.Packed.{Packed}
 use Rattle.planner_packing.specs.declared.packing.Sent.{Sent}
@@ -134,7 +134,7 @@ pub record Sends (b : PlanIndex) (n u : ℕ) (ends : Ends) (s : Rows) (ns : Node
   pub taken : bus-of r s′ ns′ ≡ (if eqb n (b .slots) then bus-of ends s ns else fills b n u (waits-at b ns n) (bus-of ends s ns))
   pub arrivals : ns′ .lastarrival ≡ (if eqb n (b .slots) then ns .lastarrival else reaches b n u (waits-at b ns n) s (ns .lastarrival))
   pub slot : ns′ .nextsend
-      ≡ (if eqb n (b .slots) then ns .nextsend else set (ns .nextsend) n (next-send-from (b .round) (getD (b .offset) n 0) u (loads b n u (waits-at b ns n) s .short)))
+      ≡ (if eqb n (b .slots) then ns .nextsend else set (ns .nextsend) n (next-round (b .round) u (loads b n u (waits-at b ns n) s .short)))
   pub waits : Slot-sent (b .slots) n (b .queuefirst) (lefts b n u (waits-at b ns n) s) (ns .wait) (ns .waitend) (ns′ .wait) (ns′ .waitend)
   pub rows-rest : Only-placed s s′
   pub nodes-rest : Only-sent ns ns′

@@ -32,7 +32,7 @@ ghost use Rattle.log_rows.specs.Rows.{rows-of};
 ghost use Rattle.planner_nodes.specs.Nodes.{nodes-of, with-lastarrival, with-wait};
 ghost use Rattle.log_queries.specs.Reading.{part};
 ghost use Rattle.planner_sends.specs.Packing.{arrive-all, Listed};
-ghost use Rattle.planner_sends.specs.NextSends.{Roomy};
+ghost use Rattle.planner_sends.specs.NextSends.{Roomy, Timed};
 ghost use Rattle.planner_packing.specs.Sending.{lay-row, lay-node, Takes, Sendable, Sends-all};
 
 // Moves the messages that wait at the places from j to before z down to place k. The place behind them.
@@ -185,7 +185,7 @@ pub(crate) fn send(
     rows: &mut Rows,
     nodes: &mut Nodes,
 ) -> Sent
-    requires { ⌜ (n < laid (now index) .slots) × Bounded (laid (now index))
+    requires { ⌜ (n < laid (now index) .slots) × Bounded (laid (now index)) × Timed (laid (now index))
         × Sendable (laid (now index)) (nodes-of (now nodes)) n u ⌝ }
     ensures { λ r. ⌜ Sends-all (laid (now (index .entry))) n u end (rows-of (now (rows .entry)))
         (nodes-of (now (nodes .entry))) r (rows-of (now (rows .exit))) (nodes-of (now (nodes .exit))) ⌝ }

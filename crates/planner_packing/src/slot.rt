@@ -4,7 +4,6 @@ use crate::packing::send;
 use log_rows::Rows;
 use plan_index::Index;
 use plan_index::lasts_of;
-use plan_index::offset_of;
 use plan_index::round_of;
 use plan_index::slots_of;
 use planner_nodes::Nodes;
@@ -12,7 +11,7 @@ use planner_nodes::passed_of;
 use planner_nodes::put_nextsend;
 use planner_nodes::put_passed;
 use planner_nodes::put_waitend;
-use planner_sends::next_send_from;
+use planner_sends::next_round;
 ghost use mathlib.Core.Path.{_≡_};
 ghost use Prim.Native.Nat.{_<_, _≤_};
 ghost use lib.ListN.{getD};
@@ -76,7 +75,7 @@ fn fill(index: &Index, n: usize, u: u32, ends: Ends, rows: &mut Rows, nodes: &mu
 }
 
 // The slot of node n takes its items at clock u, where n is a node; and what is kept by node goes on from there: at
-// which nodes an item arrives, and when the slot of node n next takes one.
+// which nodes an item arrives, and when the slot of node n next takes one, a round later if one is left.
 pub fn send_slot(
     index: &Index,
     n: usize,
@@ -95,7 +94,7 @@ pub fn send_slot(
     }
     let s = fill(index, n, u, ends, rows, nodes);
     put_waitend(nodes, n, s.behind);
-    let next = next_send_from(round_of(index), offset_of(index, n), u, s.short);
+    let next = next_round(round_of(index), u, s.short);
     put_nextsend(nodes, n, next);
     Ends {
         slotend: s.slotend,

@@ -1,8 +1,10 @@
--- Laws of what a slot takes: RowsRest (what is left alone by row), Scan (the two loops, item by item), Rows (the same as
+-- Laws of what a slot takes: RowsRest (what is left alone by row), Scan (the two loops, item by item), Decided
+-- (the broadcasts of a node are among the conditions that it decides), Rows (the same as
 -- rows tried one after another), Packs (in arrays that hold a log), SlotOfModel (what a slot takes, and what a node has
 -- pending, is what the model says), Left (what a node has pending after its slot).
 pub mod RowsRest
 pub mod Scan
+pub mod Decided
 pub mod Places
 pub mod Taking
 pub mod Rows

@@ -14,7 +14,8 @@ use Rattle.model.specs.Listing.{bit}
 use Rattle.plan_index.specs.declared.PlanIndex.{PlanIndex}
 use Rattle.log_rows.specs.Rows.{Rows}
 use Rattle.planner_nodes.specs.Nodes.{Nodes, with-nextsend, with-waitend, with-wait}
-use Rattle.bus_timetable.specs.Bus.{beginning-at}
+use Rattle.bitset.specs.Masks.{mask-from}
+use Rattle.bus_timetable.specs.Bus.{beginning-at, reciprocal-of}
 use Rattle.planner_sends.specs.Clocks.{no-event}
 use Rattle.log_queries.specs.Reading.{part}
 use Rattle.planner_sends.specs.Packing.{Listed, waits-by, pending-by}
@@ -44,6 +45,10 @@ module _ (processes conditionrow conditions : ℕ) (decider node queuefirst queu
 -- the clock of the first beginning of a slot from a tick on, where its node has an item pending
 unfoldable pub next-send-from : ℕ → ℕ → ℕ → Bool → ℕ
 next-send-from round offset tick pending = if pending then beginning-at round offset tick + 1 else no-event
+
+-- the clock a round after the clock u at which a slot begins, where it left an item
+unfoldable pub next-round : ℕ → ℕ → Bool → ℕ
+next-round round u left = if left then u + round else no-event
 
 module _ (broadcastend u : ℕ) (pending : ℕ → Bool) (busy : List ℕ) (round : ℕ) (offset : List ℕ) where
   -- node n is looked up again where a broadcast arrives or its last process ends at the clock; and the nodes below n
@@ -97,13 +102,15 @@ module _ (b : PlanIndex) (s : Rows) (u : ℕ) where
   pending-at =
       pending-in (b .processes) (b .conditionrow) (b .conditions) (b .decider) (b .node) (b .queuefirst) (b .queue) (b .from) (b .knownby) (s .unmet) (s .comes) u
 
--- What a plan index says of rounds, slots and queues.
+-- What a plan index says of rounds, slots, queues and deciders.
 pub record Timed (b : PlanIndex) : Type 0 where
   pub round-one : 1 ≤ b .round
   pub round-most : b .round ≤ ROUNDTICKS
+  pub reciprocals : b .reciprocal ≡ reciprocal-of (b .round)
   pub offset-most : (n : ℕ) → n < b .slots → getD (b .offset) n 0 ≤ b .round
   pub lasts-most : (n : ℕ) → n < b .slots → getD (b .lasts) n 0 ≤ SLOTTICKS
   pub queue-rising : (n : ℕ) → n < b .slots → getD (b .queuefirst) n 0 ≤ getD (b .queuefirst) (n + 1) 0
+  pub decided : (n : ℕ) → n < b .slots → getD (b .decides) n 0 ≡ mask-from (λ k. eqb (getD (b .node) (getD (b .decider) k 0) 0) n) 0 (b .conditions)
 
 -- What may be asked where `new` is the mask of the nodes for which something is new: at the other nodes no broadcast
 -- arrives and no process ends.

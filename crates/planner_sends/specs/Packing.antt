@@ -12,7 +12,12 @@ use Rattle.lists.specs.Lists.{if_then_else_, any, below}
 use Rattle.bitset.specs.Masks.{members, mask-from}
 use Rattle.log_queries.specs.Reading.{came-by, placed-by, part, message-by}
 
--- the broadcast of a condition is one of node n, ready and not sent
+-- the broadcast of a condition is ready and not sent
+module _ (conditionrow : ℕ) (decider comes : List ℕ) (u : ℕ) where
+  unfoldable pub ready-by : ℕ → Bool
+  ready-by k = not (placed-by comes (conditionrow + k)) && came-by comes u (getD decider k 0)
+
+-- the same, and it is one of node n
 module _ (conditionrow : ℕ) (decider node comes : List ℕ) (n u : ℕ) where
   unfoldable pub broadcasts-by : ℕ → Bool
   broadcasts-by k = (eqb (getD node (getD decider k 0) 0) n && not (placed-by comes (conditionrow + k))) && came-by comes u (getD decider k 0)

@@ -8,11 +8,15 @@ use Rattle.lists.specs.Lists.{keep}
 use Rattle.plan_index.specs.declared.PlanIndex.{PlanIndex}
 use Rattle.log_rows.specs.Rows.{Rows, with-comes, with-place}
 use Rattle.log_queries.specs.Reading.{part}
-use Rattle.planner_sends.specs.Packing.{load, broadcasts-by, waits-by, all-broadcast}
+use Rattle.planner_sends.specs.Packing.{load, ready-by, broadcasts-by, waits-by, all-broadcast}
 use Rattle.planner_sends.specs.declared.broadcasts.Taken.{Taken}
 
 module _ (b : PlanIndex) (s : Rows) where
-  -- the broadcast of a condition is one of node n, ready and not sent
+  -- the broadcast of a condition is ready and not sent
+  abbrev pub ready-to-broadcast : ℕ → ℕ → Bool
+  ready-to-broadcast = ready-by (b .conditionrow) (b .decider) (s .comes)
+
+  -- the same, and it is one of node n
   abbrev pub waits-to-broadcast : ℕ → ℕ → ℕ → Bool
   waits-to-broadcast = broadcasts-by (b .conditionrow) (b .decider) (b .node) (s .comes)
 

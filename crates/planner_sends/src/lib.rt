@@ -16,5 +16,6 @@ pub use clocks::ends_after;
 pub use clocks::next_event;
 pub use clocks::sending_node;
 pub use clocks::sooner;
-pub use next_sends::next_send_from;
+pub use next_sends::current_round;
+pub use next_sends::next_round;
 pub use next_sends::update_next_sends;

@@ -1,6 +1,7 @@
 // The frame list: the frames that the entries of a table are sent in, one for each tick, with the greatest last used
 // byte.
 use arrays::greater_u64;
+use arrays::long;
 use arrays::wide;
 use limits::ENTRIES;
 use limits::ROWENDS;
@@ -21,12 +22,6 @@ ghost use Rattle.lists.specs.Ordered.{Ascending};
 ghost use Rattle.plan_index.specs.Index.{laid, Bounded};
 ghost use Rattle.table_entries.specs.Among.{multiple, Added};
 ghost use Rattle.table_frames.specs.Packed.{entry-frame, Collected, Rows, frames-of, packed-words};
-
-fn long(x: u32) -> u64
-    ensures { λ r. ⌜ r ≡ x ⌝ }
-{
-    x as u64
-}
 
 fn word(x: u64) -> u32
     requires { ⌜ x < 4294967296 ⌝ }

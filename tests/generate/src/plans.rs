@@ -2,7 +2,8 @@
 
 use crate::random::Random;
 use crate::shapes::{
-    shape, Heads, Shape, ANY_HEAD, LONGEST_HEAD, MANY_CONDITIONS, SHORTEST_LONG_TICKS,
+    shape, Heads, Shape, Ticks, ANY_HEAD, LONGEST_HEAD, LONG_GAPS_FEW_TICKS, MANY_CONDITIONS,
+    SHORTEST_LONG_TICKS,
 };
 use reference::{Condition, Edge, Lines, Pick, PlanLine, Process, Slot, Waits, When};
 
@@ -26,10 +27,12 @@ pub enum Kind {
     /// Short slots, never in node order, and many messages between all nodes, so that the nodes pass
     /// different numbers of items over.
     UnevenBus,
+    /// Rounds of a few ticks, and processes that outlast tens of thousands of them.
+    LongGaps,
 }
 
 /// All kinds of plans.
-pub const KINDS: [Kind; 8] = [
+pub const KINDS: [Kind; 9] = [
     Kind::Tiny,
     Kind::DenseBus,
     Kind::ManyConditions,
@@ -38,6 +41,7 @@ pub const KINDS: [Kind; 8] = [
     Kind::LongestRound,
     Kind::ShortestRound,
     Kind::UnevenBus,
+    Kind::LongGaps,
 ];
 
 /// A random plan of a kind.
@@ -45,6 +49,7 @@ pub fn plan(kind: Kind, random: &mut Random) -> Lines {
     match kind {
         Kind::NestedAny => nested(random),
         Kind::ShortestRound if random.percent(50) => shaped(&SHORTEST_LONG_TICKS, random),
+        Kind::LongGaps if random.percent(50) => shaped(&LONG_GAPS_FEW_TICKS, random),
         _ => shaped(shape(kind), random),
     }
 }
@@ -115,10 +120,18 @@ fn random_processes(shape: &Shape, nodes: u64, random: &mut Random) -> Vec<Proce
     (0..random.within(shape.processes))
         .map(|_| Process {
             node: random.below(nodes),
-            ticks: random.within(shape.ticks),
+            ticks: random_ticks(&shape.ticks, random),
             waits: random_waits(shape.any_percent, random),
         })
         .collect()
+}
+
+fn random_ticks(ticks: &Ticks, random: &mut Random) -> u64 {
+    let range = match ticks {
+        Ticks::Within(range) => *range,
+        Ticks::OneOf(ranges) => random.one_of(ranges),
+    };
+    random.within(range)
 }
 
 fn random_waits(any_percent: u64, random: &mut Random) -> Waits {

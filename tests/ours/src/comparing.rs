@@ -21,7 +21,7 @@ pub fn plans() -> u64 {
 }
 
 /// Of a thousand of the plans that the tests go by, how many a test takes of each kind.
-pub type Shares = [(Kind, u64); 8];
+pub type Shares = [(Kind, u64); 9];
 
 /// How many random plans of a kind a test with these shares takes, at least one.
 pub fn count(shares: &Shares, kind: Kind) -> u64 {

@@ -19,12 +19,13 @@ use reference::{check, list_plan, listing, print, read};
 use suite::{cases, planned, s};
 
 /// The kinds of plans whose texts and tables are mutated: those that are planned quickly.
-const SMALL: [Kind; 5] = [
+const SMALL: [Kind; 6] = [
     Kind::Tiny,
     Kind::NestedAny,
     Kind::ShortestRound,
     Kind::DenseBus,
     Kind::UnevenBus,
+    Kind::LongGaps,
 ];
 
 /// The inputs that a run under valgrind goes by: few, as each takes a hundred times as long.

@@ -29,6 +29,7 @@ const SHARES: Shares = [
     (Kind::LongestRound, 5),
     (Kind::ShortestRound, 5),
     (Kind::UnevenBus, 3),
+    (Kind::LongGaps, 4),
 ];
 
 /// The most entries of which each can be met in a combination of its own, once for each row: 64

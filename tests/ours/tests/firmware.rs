@@ -32,6 +32,7 @@ const SHARES: Shares = [
     (Kind::LongestRound, 1),
     (Kind::ShortestRound, 1),
     (Kind::UnevenBus, 1),
+    (Kind::LongGaps, 1),
 ];
 
 /// A place for a file of this test.

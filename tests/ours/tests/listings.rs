@@ -33,6 +33,7 @@ const SHARES: Shares = [
     (Kind::LongestRound, 3),
     (Kind::ShortestRound, 3),
     (Kind::UnevenBus, 4),
+    (Kind::LongGaps, 3),
 ];
 
 /// More bytes than a listing of 3,000 entries that the planner prints has.

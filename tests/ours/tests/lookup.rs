@@ -29,6 +29,7 @@ const SHARES: Shares = [
     (Kind::LongestRound, 5),
     (Kind::ShortestRound, 5),
     (Kind::UnevenBus, 3),
+    (Kind::LongGaps, 4),
 ];
 
 /// How many questions are asked of each table.

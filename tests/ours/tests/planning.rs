@@ -18,14 +18,15 @@ use suite::{about_the_room, cases, for_plans, planned, With, FEW, S, S_LISTING};
 
 /// Of a thousand random plans, how many are of each kind. They add up to a thousand.
 const SHARES: Shares = [
-    (Kind::Tiny, 340),
-    (Kind::DenseBus, 190),
+    (Kind::Tiny, 250),
+    (Kind::DenseBus, 180),
     (Kind::ManyConditions, 110),
     (Kind::NestedAny, 115),
     (Kind::Largest, 5),
     (Kind::LongestRound, 90),
     (Kind::ShortestRound, 90),
     (Kind::UnevenBus, 60),
+    (Kind::LongGaps, 100),
 ];
 
 /// The bytes of a word.
@@ -223,6 +224,11 @@ fn plans_with_the_shortest_round() {
 #[test]
 fn plans_with_an_uneven_bus() {
     same_plans(Kind::UnevenBus);
+}
+
+#[test]
+fn plans_with_long_gaps() {
+    same_plans(Kind::LongGaps);
 }
 
 #[test]

@@ -1,9 +1,10 @@
 //! What the tests share: document 01's example with document 02's parts, short ways to write plans,
 //! the plans of the cases, listings with their answers, random inputs, planners and checkers that are wrong,
-//! and pictures that are compared with their tables.
+//! pictures that are compared with their tables, and divisions in the sources.
 
 pub mod cases;
 pub mod comparing_listings;
+pub mod divisions;
 pub mod drawing;
 pub mod heads;
 pub mod listing_readings;
@@ -198,7 +199,7 @@ pub fn question(node: u64, tick: u64, heard: u64, values: u64, begin: u64) -> Qu
 }
 
 /// How many random plans of each kind a test looks at.
-pub const MANY: [(Kind, u64); 8] = [
+pub const MANY: [(Kind, u64); 9] = [
     (Kind::Tiny, 1_500),
     (Kind::DenseBus, 250),
     (Kind::ManyConditions, 200),
@@ -207,10 +208,11 @@ pub const MANY: [(Kind, u64); 8] = [
     (Kind::LongestRound, 100),
     (Kind::ShortestRound, 250),
     (Kind::UnevenBus, 400),
+    (Kind::LongGaps, 250),
 ];
 
 /// The same, for tests that take long for each plan.
-pub const FEW: [(Kind, u64); 7] = [
+pub const FEW: [(Kind, u64); 8] = [
     (Kind::Tiny, 400),
     (Kind::DenseBus, 40),
     (Kind::ManyConditions, 30),
@@ -218,6 +220,7 @@ pub const FEW: [(Kind, u64); 7] = [
     (Kind::LongestRound, 20),
     (Kind::ShortestRound, 60),
     (Kind::UnevenBus, 80),
+    (Kind::LongGaps, 60),
 ];
 
 /// Calls a test with random plans and the generator for whatever else is random in it. A plan that

@@ -193,7 +193,7 @@ fn compare_all(name: &str, texts: &[Vec<u8>]) -> [usize; 10] {
 }
 
 /// How many random plans of each kind are broken and damaged.
-const PLANS: [(Kind, u64); 7] = [
+const PLANS: [(Kind, u64); 8] = [
     (Kind::Tiny, 12),
     (Kind::DenseBus, 2),
     (Kind::ManyConditions, 2),
@@ -201,6 +201,7 @@ const PLANS: [(Kind, u64); 7] = [
     (Kind::Largest, 2),
     (Kind::LongestRound, 2),
     (Kind::ShortestRound, 3),
+    (Kind::LongGaps, 2),
 ];
 
 #[test]

@@ -48,13 +48,14 @@ fn compare_all(name: &str, all: &[Refused]) -> [usize; 23] {
 }
 
 /// How many random plans of each kind have their listings damaged.
-const PLANS: [(Kind, u64); 6] = [
+const PLANS: [(Kind, u64); 7] = [
     (Kind::Tiny, 40),
     (Kind::DenseBus, 3),
     (Kind::ManyConditions, 3),
     (Kind::NestedAny, 8),
     (Kind::LongestRound, 3),
     (Kind::ShortestRound, 6),
+    (Kind::LongGaps, 3),
 ];
 
 /// The listing of a table with the frames that its entries give, except those with a place that none

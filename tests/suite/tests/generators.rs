@@ -5,9 +5,9 @@ use generate::frames::{fewest_entries, with_frames, FEWEST_FRAMES, MOST_FRAMES};
 use generate::tables::{damaged, Table};
 use generate::{plan, Kind, Random, KINDS};
 use reference::bus::{round_ticks, slot_of, slot_ticks};
-use reference::table::{entries, frames, row, row_bytes, row_node};
+use reference::table::{entries, frames, row, row_bytes, row_node, Frame};
 use reference::{refuse_plan, Lines, Pick, Waits};
-use suite::{planned, With};
+use suite::{full_times, planned, With};
 
 /// The first random plans of a kind.
 fn plans(kind: Kind, count: u64) -> Vec<Lines> {
@@ -73,6 +73,53 @@ fn every_kind_has_no_head_the_longest_and_others() {
     for head in 0..=16 {
         assert!(tiny.iter().any(|lines| lines.plan.head == head), "{head}");
     }
+}
+
+/// The rounds from the start of a process to its end, of the process with most of them.
+fn longest_gap(lines: &Lines) -> u64 {
+    let ticks = lines.processes.iter().map(|p| p.ticks).max().unwrap();
+    ticks / round_ticks(lines)
+}
+
+/// Rounds of 1, 2 and 3 ticks, powers of two and others, and processes that outlast 10,000 of them.
+#[test]
+fn long_gaps_are_many_rounds_of_few_ticks() {
+    let plans = plans(Kind::LongGaps, 200);
+    let rounds: Vec<u64> = plans.iter().map(round_ticks).collect();
+    let count = |is_so: fn(u64) -> bool| rounds.iter().filter(|&&round| is_so(round)).count();
+    assert!(count(|round| round == 1) >= 20);
+    assert!(count(|round| round == 2) >= 20);
+    assert!(count(|round| round == 3) >= 20);
+    assert!(count(|round| round > 3 && round.is_power_of_two()) >= 10);
+    assert!(count(|round| round > 3 && !round.is_power_of_two()) >= 40);
+    let far = plans.iter().filter(|lines| longest_gap(lines) >= 10_000);
+    assert!(far.count() >= 120);
+}
+
+/// Mostly long processes, now and then the longest or short ones.
+#[test]
+fn long_gaps_have_long_processes() {
+    let plans = plans(Kind::LongGaps, 200);
+    let ticks: Vec<u64> = plans.iter().flat_map(full_times).collect();
+    let percent = |is_so: fn(u64) -> bool| {
+        let found = ticks.iter().filter(|&&ticks| is_so(ticks)).count();
+        100 * found / ticks.len()
+    };
+    assert!(percent(|ticks| (50_000..100_000).contains(&ticks)) >= 60);
+    assert!(percent(|ticks| ticks == 100_000) >= 10);
+    assert!(percent(|ticks| ticks < 10) >= 10);
+}
+
+/// Items of long gaps that are sent 10,000 rounds and more after the last item before them.
+#[test]
+fn long_gaps_lie_between_frames() {
+    let plans = plans(Kind::LongGaps, 100);
+    let far = plans.iter().filter(|lines| {
+        let used = frames(&planned(lines).frames);
+        let apart = |two: &[Frame]| u64::from(two[1].tick - two[0].tick) / round_ticks(lines);
+        used.windows(2).any(|two| apart(two) >= 10_000)
+    });
+    assert!(far.count() >= 40);
 }
 
 /// Frames with a head whose data fill their slot, and items that are passed over all the same.

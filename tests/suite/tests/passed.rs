@@ -151,6 +151,7 @@ fn random_plans_show_whose_count_it_is() {
             Kind::LongestRound => [190, 80, 80, 130, 130],
             Kind::ShortestRound => [70, 20, 15, 40, 70],
             Kind::UnevenBus => [200, 160, 160, 180, 190],
+            Kind::LongGaps => [70, 35, 25, 50, 70],
         };
         let enough = shares
             .iter()

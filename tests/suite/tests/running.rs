@@ -54,6 +54,7 @@ fn sound_tables_that_no_planner_made_keep_demand_three() {
         (Kind::Tiny, 300),
         (Kind::NestedAny, 30),
         (Kind::ShortestRound, 40),
+        (Kind::LongGaps, 40),
     ];
     for_plans(43, &kinds, |lines, random| {
         for table in sound_variants(lines, &planned_table(lines), random) {

@@ -3,8 +3,8 @@
 use mathlib.Core.Path.{sym, ap, _∙_, subst}
 use borrow.Author.Needs.{needs}
 use Rattle.plan.specs.declared.tables.SlotTable.{SlotTable}
-use Rattle.bus_timetable.specs.Bus.{Small, table-of}
-use Rattle.bus_timetable.proofs.TimetableOfModel.{small, timetable-same}
+use Rattle.bus_timetable.specs.Bus.{Small, Lasting, table-of}
+use Rattle.bus_timetable.proofs.TimetableOfModel.{small, lasting, timetable-same}
 use Rattle.bus_timetable.proofs.of_plan.Statement.{statement}
 use Rattle.bus_timetable.proofs.of_plan.Tie as tie
 
@@ -15,7 +15,8 @@ of-slots-requires : tie.Need-of-slots-requires
 of-slots-requires c κs =
     let s = c .before .before .before .before in
     let p = s .args .p in
-    subst (λ (t : SlotTable). Small (p .line) (t .bytes) (p .slots)) (sym (c .before .before .before .slot-table .ensures)) (small p (s .pre))
+    subst (λ (t : SlotTable). Small (p .line) (t .bytes) (p .slots) × Lasting (p .line) (t .node) (t .bytes) (p .slots)) (sym (c .before .before .before .slot-table .ensures))
+    (small p (s .pre), lasting p (s .pre))
 
 returns : tie.Need-returns
 returns c =

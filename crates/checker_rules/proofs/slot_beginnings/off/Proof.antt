@@ -42,38 +42,32 @@ sub-tick-2 c =
 sender-of-requires : tie.Need-sender-of-requires
 sender-of-requires c κs = search needs
 
-round-of-requires : tie.Need-round-of-requires
-round-of-requires c κs = search needs
-
-offset-of-requires : tie.Need-offset-of-requires
-offset-of-requires c κs = search needs
-
-first-beginning-requires : tie.Need-first-beginning-requires
-first-beginning-requires c κs =
-    let n = c .before in
-    let m = n .before in
-    let e = m .before .before in
+first-from-requires : tie.Need-first-from-requires
+first-from-requires c κs =
+    let a = c .before in
+    let e = a .before in
     let x = e .before in
     let s = x .before in
     let b = laid (s .args .index .now) in
     let h = s .pre .1 .1 .1 in
     let l = s .pre .1 .1 .0 .soon (s .args .r) in
-    let o = c .offset-of .ensures ∙ ap (λ (k : ℕ). getD (b .offset) k 0) (m .sender-of .ensures .0) in (
-      omega (arith, n .round-of .ensures, h .round-one),
-      omega (arith, n .round-of .ensures, h .round-most),
-      omega (arith, o, h .offsets (s .args .r) (λ q. e .if1 .left (x .comes-of .ensures ∙ q))),
-      omega (arith, x .comes-of .ensures, l),
-    )
+    let o = ap (λ (k : ℕ). getD (b .offset) k 0) (c .sender-of .ensures .0) in
+    record {
+      node = c .sender-of .ensures .1;
+      round-one = h .round-one;
+      round-most = h .round-most;
+      reciprocals = h .reciprocals;
+      offset-most = omega (arith, o, h .offsets (s .args .r) (λ q. e .if1 .left (x .comes-of .ensures ∙ q)));
+      tick-most = omega (arith, x .comes-of .ensures, l);
+    }
 
 returns-2 : tie.Need-returns-2
 unfolding off-by placed-by start-by
 returns-2 c =
-    let o = c .before in
-    let n = o .before in
-    let m = n .before in
+    let m = c .before in
     let a = m .before in
     let e = a .before in
-    simp (← e .before .comes-of .ensures, ne-eqb _ _ (e .if1 .left), ← a .span-of .ensures .0, ← m .sender-of .ensures .0, ← n .round-of .ensures, ← o .offset-of .ensures, c .first-beginning .ensures)
+    simp (← e .before .comes-of .ensures, ne-eqb _ _ (e .if1 .left), ← a .span-of .ensures .0, ← m .sender-of .ensures .0, c .first-from .ensures)
 
 pub off-spec : {M : Type 1} → statement M
 off-spec =
@@ -85,7 +79,5 @@ off-spec =
     sub-tick
     sub-tick-2
     sender-of-requires
-    round-of-requires
-    offset-of-requires
-    first-beginning-requires
+    first-from-requires
     returns-2)

@@ -17,7 +17,7 @@ element-copy-out-result c = search needs
 
 returns : tie.Need-returns
 unfolding laid
-returns c = let s = c .before in field-at (s .args .index .now) 135 64 (s .args .i) (s .pre)
+returns c = let s = c .before in field-at (s .args .index .now) 136 64 (s .args .i) (s .pre)
 
 pub asany-of-spec : {M : Type 1} → statement M
 asany-of-spec = tie.close (tie.spec add-result mul-result element-copy-out-result returns)

@@ -22,7 +22,7 @@ wide-requires c κs = search needs
 
 returns : tie.Need-returns
 unfolding laid
-returns c = let s = c .before .before in let e = c .wide .ensures ∙ field-at (s .args .index .now) 839 128 (s .args .e) (s .pre .0) in (e, omega (arith, e, s .pre .1 .condition-small (s .args .e)))
+returns c = let s = c .before .before in let e = c .wide .ensures ∙ field-at (s .args .index .now) 840 128 (s .args .e) (s .pre .0) in (e, omega (arith, e, s .pre .1 .condition-small (s .args .e)))
 
 pub condition-of-spec : {M : Type 1} → statement M
 condition-of-spec = tie.close (tie.spec add-wide mul-wide element-copy-out-wide wide-requires returns)

@@ -22,7 +22,7 @@ wide-requires c κs = search needs
 
 returns : tie.Need-returns
 unfolding laid
-returns c = let s = c .before .before in let e = c .wide .ensures ∙ field-at (s .args .index .now) 967 6 (s .args .k) (s .pre .0) in (e, omega (arith, e, s .pre .1 .decider-small (s .args .k)))
+returns c = let s = c .before .before in let e = c .wide .ensures ∙ field-at (s .args .index .now) 968 6 (s .args .k) (s .pre .0) in (e, omega (arith, e, s .pre .1 .decider-small (s .args .k)))
 
 pub decider-of-spec : {M : Type 1} → statement M
 decider-of-spec = tie.close (tie.spec add-wide mul-wide element-copy-out-wide wide-requires returns)

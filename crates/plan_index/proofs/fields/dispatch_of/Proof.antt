@@ -22,7 +22,7 @@ wide-requires c κs = search needs
 
 returns : tie.Need-returns
 unfolding laid
-returns c = let s = c .before .before in let e = c .wide .ensures ∙ field-at (s .args .index .now) 1231 128 (s .args .j) (s .pre .0) in (e, omega (arith, e, s .pre .1 .dispatch-members (s .args .j)))
+returns c = let s = c .before .before in let e = c .wide .ensures ∙ field-at (s .args .index .now) 1232 128 (s .args .j) (s .pre .0) in (e, omega (arith, e, s .pre .1 .dispatch-members (s .args .j)))
 
 pub dispatch-of-spec : {M : Type 1} → statement M
 dispatch-of-spec = tie.close (tie.spec add-wide mul-wide element-copy-out-wide wide-requires returns)

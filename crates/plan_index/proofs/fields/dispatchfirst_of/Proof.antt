@@ -22,7 +22,7 @@ wide-requires c κs = search needs
 
 returns : tie.Need-returns
 unfolding laid
-returns c = let s = c .before .before in let e = c .wide .ensures ∙ field-at (s .args .index .now) 1166 65 (s .args .n) (s .pre .0) in (e, omega (arith, e, s .pre .1 .dispatch-firsts (s .args .n)))
+returns c = let s = c .before .before in let e = c .wide .ensures ∙ field-at (s .args .index .now) 1167 65 (s .args .n) (s .pre .0) in (e, omega (arith, e, s .pre .1 .dispatch-firsts (s .args .n)))
 
 pub dispatchfirst-of-spec : {M : Type 1} → statement M
 dispatchfirst-of-spec = tie.close (tie.spec add-wide mul-wide element-copy-out-wide wide-requires returns)

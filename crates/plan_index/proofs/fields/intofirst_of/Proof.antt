@@ -22,7 +22,7 @@ wide-requires c κs = search needs
 
 returns : tie.Need-returns
 unfolding laid
-returns c = let s = c .before .before in let e = c .wide .ensures ∙ field-at (s .args .index .now) 973 65 (s .args .i) (s .pre .0) in (e, omega (arith, e, s .pre .1 .into-firsts (s .args .i)))
+returns c = let s = c .before .before in let e = c .wide .ensures ∙ field-at (s .args .index .now) 974 65 (s .args .i) (s .pre .0) in (e, omega (arith, e, s .pre .1 .into-firsts (s .args .i)))
 
 pub intofirst-of-spec : {M : Type 1} → statement M
 intofirst-of-spec = tie.close (tie.spec add-wide mul-wide element-copy-out-wide wide-requires returns)

@@ -17,7 +17,7 @@ element-copy-out-result c = search needs
 
 returns : tie.Need-returns
 unfolding laid
-returns c = let s = c .before in field-at (s .args .index .now) 711 128 (s .args .e) (s .pre)
+returns c = let s = c .before in field-at (s .args .index .now) 712 128 (s .args .e) (s .pre)
 
 pub kind-of-spec : {M : Type 1} → statement M
 kind-of-spec = tie.close (tie.spec add-result mul-result element-copy-out-result returns)

@@ -22,7 +22,7 @@ wide-requires c κs = search needs
 
 returns : tie.Need-returns
 unfolding laid
-returns c = let s = c .before .before in let e = c .wide .ensures ∙ field-at (s .args .index .now) 7 64 (s .args .i) (s .pre .0) in (e, omega (arith, e, s .pre .1 .node-small (s .args .i)))
+returns c = let s = c .before .before in let e = c .wide .ensures ∙ field-at (s .args .index .now) 8 64 (s .args .i) (s .pre .0) in (e, omega (arith, e, s .pre .1 .node-small (s .args .i)))
 
 pub node-of-spec : {M : Type 1} → statement M
 node-of-spec = tie.close (tie.spec add-wide mul-wide element-copy-out-wide wide-requires returns)

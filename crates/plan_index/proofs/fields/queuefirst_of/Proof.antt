@@ -22,7 +22,7 @@ wide-requires c κs = search needs
 
 returns : tie.Need-returns
 unfolding laid
-returns c = let s = c .before .before in let e = c .wide .ensures ∙ field-at (s .args .index .now) 1359 65 (s .args .n) (s .pre .0) in (e, omega (arith, e, s .pre .1 .queue-firsts (s .args .n)))
+returns c = let s = c .before .before in let e = c .wide .ensures ∙ field-at (s .args .index .now) 1360 65 (s .args .n) (s .pre .0) in (e, omega (arith, e, s .pre .1 .queue-firsts (s .args .n)))
 
 pub queuefirst-of-spec : {M : Type 1} → statement M
 queuefirst-of-spec = tie.close (tie.spec add-wide mul-wide element-copy-out-wide wide-requires returns)

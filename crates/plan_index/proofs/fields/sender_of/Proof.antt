@@ -22,7 +22,7 @@ wide-requires c κs = search needs
 
 returns : tie.Need-returns
 unfolding laid
-returns c = let s = c .before .before in let e = c .wide .ensures ∙ field-at (s .args .index .now) 1774 198 (s .args .row) (s .pre .0) in (e, omega (arith, e, s .pre .1 .sender-small (s .args .row)))
+returns c = let s = c .before .before in let e = c .wide .ensures ∙ field-at (s .args .index .now) 1783 198 (s .args .row) (s .pre .0) in (e, omega (arith, e, s .pre .1 .sender-small (s .args .row)))
 
 pub sender-of-spec : {M : Type 1} → statement M
 sender-of-spec = tie.close (tie.spec add-wide mul-wide element-copy-out-wide wide-requires returns)

@@ -18,7 +18,7 @@ element-copy-out-result c = search needs
 
 returns : tie.Need-returns
 unfolding laid
-returns c = let s = c .before in let e = field-at (s .args .index .now) 1972 198 (s .args .row) (s .pre .0) in (e, omega (arith, e, s .pre .1 .size-most (s .args .row)))
+returns c = let s = c .before in let e = field-at (s .args .index .now) 1981 198 (s .args .row) (s .pre .0) in (e, omega (arith, e, s .pre .1 .size-most (s .args .row)))
 
 pub size-of-spec : {M : Type 1} → statement M
 size-of-spec = tie.close (tie.spec add-result mul-result element-copy-out-result returns)

@@ -18,7 +18,7 @@ element-copy-out-result c = search needs
 
 returns : tie.Need-returns
 unfolding laid
-returns c = let s = c .before in let e = field-at (s .args .index .now) 71 64 (s .args .i) (s .pre .0) in (e, omega (arith, e, s .pre .1 .ticks-most (s .args .i)))
+returns c = let s = c .before in let e = field-at (s .args .index .now) 72 64 (s .args .i) (s .pre .0) in (e, omega (arith, e, s .pre .1 .ticks-most (s .args .i)))
 
 pub ticks-of-spec : {M : Type 1} → statement M
 ticks-of-spec = tie.close (tie.spec add-result mul-result element-copy-out-result returns)

@@ -66,10 +66,16 @@ row-sizes-requires c κs =
     let h = owned (c .before .before .before .before .before) .pre in
     (h .few-processes, (omega (arith, h .few-edges), omega (arith, h .few-processes, h .few-edges, h .few-conditions)))
 
+decided-by-node-requires : tie.Need-decided-by-node-requires
+decided-by-node-requires c κs =
+    let h = owned (c .before .before .before .before .before .before .before .before) .pre in
+    (h .few-conditions, (h .deciders, h .nodes))
+
 returns : tie.Need-returns
 unfolding index-of
 returns c =
-    let spanned = c .before .before in
+    let sized = c .before .before .before in
+    let spanned = sized .before .before in
     let sent = spanned .before .before .before .before in
     let received = sent .before .before .before .before in
     let knowing = received .before in
@@ -105,12 +111,14 @@ returns c =
       queuefirst = a .o .queuefirst;
       queue = a .o .queue;
       round = a .t .round;
+      reciprocal = a .t .reciprocal;
       offset = a .t .offset;
       lasts = a .t .ticks;
       rooms = a .t .bytes;
+      decides = c .decided-by-node .ensures j;
       span = spans j;
       sender = senders j;
-      size = c .row-sizes .ensures j;
+      size = sized .row-sizes .ensures j;
     }
 
 pub laid-out-spec : {M : Type 1} → statement M
@@ -126,4 +134,5 @@ laid-out-spec =
     row-senders-requires
     row-spans-requires
     row-sizes-requires
+    decided-by-node-requires
     returns)

@@ -39,7 +39,7 @@ returns c =
     let s1 = s2 .before .before .before .before in
     let a = s1 .before .before .before .before .args in
     record {
-      stores = c .lay-conditions .ensures .store ∙ ap (λ (l : List ℕ). sets l 967 (a .t1 .decider)) (s6 .lay-edges6 .ensures .store ∙ ap (λ (l : List ℕ). sets l 839 (a .t1 .condition)) (s5 .lay-edges5 .ensures .store ∙ ap (λ (l : List ℕ). sets l 711 (a .t1 .kind)) (s4 .lay-edges4 .ensures .store ∙ ap (λ (l : List ℕ). sets l 583 (a .t1 .bytes)) (s3 .lay-edges3 .ensures .store ∙ ap (λ (l : List ℕ). sets l 455 (a .t1 .remote)) (s2 .lay-edges2 .ensures .store ∙ ap (λ (l : List ℕ). sets l 327 (a .t1 .knownby)) (s1 .lay-edges .ensures .store))))));
+      stores = c .lay-conditions .ensures .store ∙ ap (λ (l : List ℕ). sets l 968 (a .t1 .decider)) (s6 .lay-edges6 .ensures .store ∙ ap (λ (l : List ℕ). sets l 840 (a .t1 .condition)) (s5 .lay-edges5 .ensures .store ∙ ap (λ (l : List ℕ). sets l 712 (a .t1 .kind)) (s4 .lay-edges4 .ensures .store ∙ ap (λ (l : List ℕ). sets l 584 (a .t1 .bytes)) (s3 .lay-edges3 .ensures .store ∙ ap (λ (l : List ℕ). sets l 456 (a .t1 .remote)) (s2 .lay-edges2 .ensures .store ∙ ap (λ (l : List ℕ). sets l 328 (a .t1 .knownby)) (s1 .lay-edges .ensures .store))))));
       from-long = s1 .lay-edges .ensures .long;
       knownby-long = s2 .lay-edges2 .ensures .long;
       remote-long = s3 .lay-edges3 .ensures .long;

@@ -35,7 +35,7 @@ returns c =
     let s1 = s2 .before .before .before .before in
     let a = s1 .before .before .before .before .args in
     record {
-      stores = c .lay-edges3 .ensures .store ∙ ap (λ (l : List ℕ). sets l 1424 (a .t1 .queue)) (s5 .lay-starts3 .ensures .store ∙ ap (λ (l : List ℕ). sets l 1359 (a .t1 .queuefirst)) (s4 .lay-edges2 .ensures .store ∙ ap (λ (l : List ℕ). sets l 1231 (a .t1 .dispatch)) (s3 .lay-starts2 .ensures .store ∙ ap (λ (l : List ℕ). sets l 1166 (a .t1 .dispatchfirst)) (s2 .lay-edges .ensures .store ∙ ap (λ (l : List ℕ). sets l 1038 (a .t1 .into)) (s1 .lay-starts .ensures .store)))));
+      stores = c .lay-edges3 .ensures .store ∙ ap (λ (l : List ℕ). sets l 1425 (a .t1 .queue)) (s5 .lay-starts3 .ensures .store ∙ ap (λ (l : List ℕ). sets l 1360 (a .t1 .queuefirst)) (s4 .lay-edges2 .ensures .store ∙ ap (λ (l : List ℕ). sets l 1232 (a .t1 .dispatch)) (s3 .lay-starts2 .ensures .store ∙ ap (λ (l : List ℕ). sets l 1167 (a .t1 .dispatchfirst)) (s2 .lay-edges .ensures .store ∙ ap (λ (l : List ℕ). sets l 1039 (a .t1 .into)) (s1 .lay-starts .ensures .store)))));
       intofirst-long = s1 .lay-starts .ensures .long;
       into-long = s2 .lay-edges .ensures .long;
       dispatchfirst-long = s3 .lay-starts2 .ensures .long;

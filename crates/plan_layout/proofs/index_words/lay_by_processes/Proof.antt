@@ -23,7 +23,7 @@ returns c =
     let s1 = s2 .before .before .before .before in
     let a = s1 .before .before .before .before .args in
     record {
-      stores = c .lay-processes3 .ensures .store ∙ ap (λ (l : List ℕ). sets l 135 (a .t1 .asany)) (s2 .lay-processes2 .ensures .store ∙ ap (λ (l : List ℕ). sets l 71 (a .t1 .ticks)) (s1 .lay-processes .ensures .store));
+      stores = c .lay-processes3 .ensures .store ∙ ap (λ (l : List ℕ). sets l 136 (a .t1 .asany)) (s2 .lay-processes2 .ensures .store ∙ ap (λ (l : List ℕ). sets l 72 (a .t1 .ticks)) (s1 .lay-processes .ensures .store));
       node-long = s1 .lay-processes .ensures .long;
       ticks-long = s2 .lay-processes2 .ensures .long;
       asany-long = c .lay-processes3 .ensures .long;

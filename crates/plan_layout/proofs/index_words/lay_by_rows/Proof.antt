@@ -23,7 +23,7 @@ returns c =
     let s1 = s2 .before .before .before .before in
     let a = s1 .before .before .before .before .args in
     record {
-      stores = c .lay-rows3 .ensures .store ∙ ap (λ (l : List ℕ). sets l 1972 (a .t1 .size)) (s2 .lay-rows2 .ensures .store ∙ ap (λ (l : List ℕ). sets l 1774 (a .t1 .sender)) (s1 .lay-rows .ensures .store));
+      stores = c .lay-rows3 .ensures .store ∙ ap (λ (l : List ℕ). sets l 1981 (a .t1 .size)) (s2 .lay-rows2 .ensures .store ∙ ap (λ (l : List ℕ). sets l 1783 (a .t1 .sender)) (s1 .lay-rows .ensures .store));
       span-long = s1 .lay-rows .ensures .long;
       sender-long = s2 .lay-rows2 .ensures .long;
       size-long = c .lay-rows3 .ensures .long;

@@ -26,7 +26,10 @@ of-changes c = c .before
 abbrev of-new : tie.After-new-nodes → tie.After-changes
 of-new c = c .before .before
 
-abbrev of-updated : tie.After-update-next-sends → tie.After-new-nodes
+abbrev of-round : tie.After-current-round → tie.After-new-nodes
+of-round c = c .before
+
+abbrev of-updated : tie.After-update-next-sends → tie.After-current-round
 of-updated c = c .before .before .before
 
 abbrev of-begun : tie.After-begin → tie.After-update-next-sends
@@ -56,21 +59,28 @@ changes-requires c κs = search needs
 new-nodes-requires : tie.Need-new-nodes-requires
 new-nodes-requires c κs = search needs
 
+current-round-requires : tie.Need-current-round-requires
+current-round-requires c κs =
+    let s = of-note (of-heard (of-changes (of-new c))) in
+    let o = s .pre .1 in
+    (o .kept .from-one, o .low, timed (laid (s .args .index .now)) (s .pre .0), o .carried)
+
 update-next-sends-requires : tie.Need-update-next-sends-requires
 update-next-sends-requires c κs =
-    let y = c .before .before in
+    let t = c .before .before in
+    let y = of-round t in
     let x = of-new y in
     let h = of-changes x in
     let w = of-heard h in
     let s = of-note w in
     let a = s .args in
     let b : PlanIndex = laid (a .index .now) in
-    (s .pre .1 .kept .from-one, s .pre .1 .low, s .pre .0 .bounded, timed b (s .pre .0), updatable b (s .pre .0) (a .at) (rows-of (a .rows .now)) (nodes-of (a .nodes .now)) (s .pre .1) _ (w .note .ensures) _ (h .update-may-run .ensures) _ (x .changes .ensures) _ (y .new-nodes .ensures .0) (y .new-nodes .ensures .1))
+    (s .pre .1 .kept .from-one, s .pre .1 .low, s .pre .0 .bounded, timed b (s .pre .0), updatable b (s .pre .0) (a .at) (rows-of (a .rows .now)) (nodes-of (a .nodes .now)) (s .pre .1) _ (w .note .ensures) _ (h .update-may-run .ensures) _ (x .changes .ensures) _ (y .new-nodes .ensures .0) (y .new-nodes .ensures .1), t .current-round .ensures)
 
 begin-requires : tie.Need-begin-requires
 begin-requires c κs =
     let d = c .before .before in
-    let y = of-updated d in
+    let y = of-round (of-updated d) in
     let x = of-new y in
     let h = of-changes x in
     let w = of-heard h in
@@ -81,7 +91,7 @@ begin-requires c κs =
 
 slots-of-requires : tie.Need-slots-of-requires
 slots-of-requires c κs =
-    of-note (of-heard (of-changes (of-new (of-updated (of-begun c))))) .pre .0 .bounded
+    of-note (of-heard (of-changes (of-new (of-round (of-updated (of-begun c)))))) .pre .0 .bounded
 
 sending-node-requires : tie.Need-sending-node-requires
 sending-node-requires c κs = search needs
@@ -92,7 +102,7 @@ send-slot-requires c κs =
     let z = of-sending v in
     let g = z .before in
     let d = of-begun g in
-    let y = of-updated d in
+    let y = of-round (of-updated d) in
     let x = of-new y in
     let h = of-changes x in
     let w = of-heard h in
@@ -120,7 +130,7 @@ returns c =
     let z = of-sending v in
     let g = z .before in
     let d = of-begun g in
-    let y = of-updated d in
+    let y = of-round (of-updated d) in
     let x = of-new y in
     let h = of-changes x in
     let w = of-heard h in
@@ -129,7 +139,7 @@ returns c =
     let b : PlanIndex = laid (a .index .now) in
     let n = v .sending-node .ensures ∙ (λ i. sending-node-by (nodes-of (g .begin .last .1 .1 .1 .1 .1 .0) .nextsend) (a .at .u) (z .slots-of .ensures .0 i)) in
     let e = q .ends-after .ensures ∙ (λ i. ends-now (a .at .ends) (g .begin .result) (nodes-of (t .send-slot .last .1 .1 .1 .1 .1 .0) .busy) (a .at .u) (z .slots-of .ensures .0 i)) in
-    event-done b (s .pre .0) (a .at) (rows-of (a .rows .now)) (nodes-of (a .nodes .now)) (s .pre .1) _ (w .note .ensures) _ (h .update-may-run .ensures) _ (x .changes .ensures) _ (y .new-nodes .ensures .0) (y .new-nodes .ensures .1) _ (d .update-next-sends .ensures) _ _ _ (g .begin .ensures) _ n _ _ _ (t .send-slot .ensures) _ _ _ e (o .sooner .ensures) (c .next-event .ensures)
+    event-done b (s .pre .0) (a .at) (rows-of (a .rows .now)) (nodes-of (a .nodes .now)) (s .pre .1) _ (w .note .ensures) _ (h .update-may-run .ensures) _ (x .changes .ensures) _ (y .new-nodes .ensures .0) (y .new-nodes .ensures .1) _ (d .update-next-sends .ensures) _ _ _ (g .begin .ensures) _ n _ _ _ (t .send-slot .ensures) _ _ _ e (o .sooner .ensures) (c .next-event .ensures) _ (of-updated d .current-round .ensures)
 
 pub event-spec : {M : Type 1} → statement M
 event-spec =
@@ -139,6 +149,7 @@ event-spec =
     update-may-run-requires
     changes-requires
     new-nodes-requires
+    current-round-requires
     update-next-sends-requires
     begin-requires
     slots-of-requires

@@ -90,12 +90,12 @@ take-messages-requires c κs =
     let f = at-first y .queuefirst-of .ensures .0 in
     let z = at-end y .waitend-of .ensures in
     let within = taken-within (at-row y .conditionrow-of .result) (at-room y .rooms-of .result) (a .end) (at-row y .before .pending-broadcasts .result) (r .comes) (r .place) in (
-      omega (arith, f, z, p .2 .begins (p .0)),
-      omega (arith, z, p .2 .ends (p .0), p .1 .queue-firsts (a .n + 1)),
+      omega (arith, f, z, p .3 .begins (p .0)),
+      omega (arith, z, p .3 .ends (p .0), p .1 .queue-firsts (a .n + 1)),
       omega (arith, ap (λ (x : Load). x .used) (t .take-broadcasts .ensures .taken), within),
       p .1,
-      roomy-same (λ i. g i .wait) (λ i. g i .waitend) (p .2 .roomy),
-      λ e m. p .2 .sent (p .0) e (subst (λ (xs : List ℕ). In e xs) (messages y (λ i. g i .wait)) m),
+      roomy-same (λ i. g i .wait) (λ i. g i .waitend) (p .3 .roomy),
+      λ e m. p .3 .sent (p .0) e (subst (λ (xs : List ℕ). In e xs) (messages y (λ i. g i .wait)) m),
     )
 
 returns : tie.Need-returns

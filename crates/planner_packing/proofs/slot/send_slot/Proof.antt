@@ -10,7 +10,7 @@ use borrow.Author.Tests.{eq-eqb, ne-eqb}
 use Rattle.lists.proofs.Tests.{at-most}
 use Rattle.plan_index.specs.Index.{laid}
 use Rattle.planner_nodes.specs.Nodes.{Nodes, nodes-of, put-nextsend}
-use Rattle.planner_sends.specs.NextSends.{next-send-from}
+use Rattle.planner_sends.specs.NextSends.{next-round}
 use Rattle.planner_packing.specs.Slot.{bus}
 use Rattle.planner_packing.proofs.Rests.{sent-join, listed-after}
 use Rattle.planner_packing.proofs.slot.send_slot.Statement.{statement}
@@ -50,29 +50,21 @@ put-waitend-requires c κs =
 round-of-requires : tie.Need-round-of-requires
 round-of-requires c κs = search needs
 
-offset-of-requires : tie.Need-offset-of-requires
-offset-of-requires c κs =
+next-round-requires : tie.Need-next-round-requires
+next-round-requires c κs =
     let e = c .before .before .before .before .before .before in
-    omega (arith, low e, e .before .before .pre .1 .few-slots)
-
-next-send-from-requires : tie.Need-next-send-from-requires
-next-send-from-requires c κs =
-    let e = c .before .before .before .before .before .before .before in
     let s = e .before .before in
-    let t = s .pre .2 in
-    let r = c .before .round-of .ensures in
-    (omega (arith, r, t .round-one), omega (arith, r, t .round-most), omega (arith, r, c .offset-of .ensures, t .offset-most (s .args .n) (low e)), s .pre .0)
+    (omega (arith, c .round-of .ensures, s .pre .2 .round-most), s .pre .0)
 
 put-nextsend-requires : tie.Need-put-nextsend-requires
 put-nextsend-requires c κs =
-    let e = c .before .before .before .before .before .before .before .before .before in
+    let e = c .before .before .before .before .before .before .before .before in
     omega (arith, low e, e .before .before .pre .1 .few-slots)
 
 returns-2 : tie.Need-returns-2
 returns-2 c =
     let d = c .before .before in
-    let o = d .before in
-    let r = o .before in
+    let r = d .before in
     let w = r .before in
     let f = w .before .before in
     let e = f .before .before .before in
@@ -81,8 +73,8 @@ returns-2 c =
     let ns : Nodes = nodes-of (a .nodes .now) in
     let g = f .fill .ensures in
     let h = ne-eqb _ _ (λ z. e .if1 .left (z ∙ sym (e .before .slots-of .ensures .0))) in
-    let stored = c .put-nextsend .ensures ∙ ap (put-nextsend (a .n) (d .next-send-from .result)) (w .put-waitend .ensures) in
-    let next = d .next-send-from .ensures ∙ (λ i. next-send-from (r .round-of .ensures i) (o .offset-of .ensures i) (a .u) (g .short i)) in
+    let stored = c .put-nextsend .ensures ∙ ap (put-nextsend (a .n) (d .next-round .result)) (w .put-waitend .ensures) in
+    let next = d .next-round .ensures ∙ (λ i. next-round (r .round-of .ensures i) (a .u) (g .short i)) in
     record {
       taken = rw h (ap (bus _ _ _ _) (λ i. stored i .passed) ∙ g .taken);
       arrivals = rw h ((λ i. stored i .lastarrival) ∙ g .arrivals);
@@ -109,7 +101,6 @@ send-slot-spec =
     fill-requires
     put-waitend-requires
     round-of-requires
-    offset-of-requires
-    next-send-from-requires
+    next-round-requires
     put-nextsend-requires
     returns-2)

@@ -25,14 +25,14 @@ pending-broadcasts-requires c κs = search needs
 is-empty-requires : tie.Need-is-empty-requires
 is-empty-requires c κs =
     let s = c .before in
-    omega (arith, c .pending-broadcasts .ensures, built-small (waits s) 0 (laid (s .args .index .now) .conditions) 6 (s .pre .few-conditions))
+    omega (arith, c .pending-broadcasts .ensures, built-small (waits s) 0 (laid (s .args .index .now) .conditions) 6 (s .pre .1 .few-conditions))
 
 returns : tie.Need-returns
 returns c =
     let s = c .before .before in
     ap not (c .is-empty .ensures)
     ∙ ap (λ (m : ℕ). not (null (members m))) (c .before .pending-broadcasts .ensures)
-    ∙ built-some (waits s) (laid (s .args .index .now) .conditions) (s .pre .few-conditions)
+    ∙ built-some (waits s) (laid (s .args .index .now) .conditions) (s .pre .1 .few-conditions)
 
 pub has-broadcast-spec : {M : Type 1} → statement M
 has-broadcast-spec = tie.close (tie.spec pending-broadcasts-requires is-empty-requires returns)

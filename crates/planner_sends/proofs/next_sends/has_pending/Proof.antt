@@ -21,22 +21,26 @@ use Rattle.planner_sends.proofs.next_sends.has_pending.Statement.{state
 use Rattle.planner_sends.proofs.next_sends.has_pending.Tie as tie
 
 queuefirst-of-requires : tie.Need-queuefirst-of-requires
-queuefirst-of-requires c κs = search needs
+queuefirst-of-requires c κs = (omega (arith, c .pre .0, c .pre .1 .few-slots), c .pre .1)
 
 add-queuefirst-of : tie.Need-add-queuefirst-of
-add-queuefirst-of c = search needs
+add-queuefirst-of c = let s = c .before in omega (arith, s .pre .0, s .pre .1 .few-slots)
 
 queuefirst-of-requires-2 : tie.Need-queuefirst-of-requires-2
-queuefirst-of-requires-2 c κs = search needs
+queuefirst-of-requires-2 c κs = let s = c .before in (omega (arith, s .pre .0, s .pre .1 .few-slots), s .pre .1)
 
 find-waiting-requires : tie.Need-find-waiting-requires
-find-waiting-requires c κs = search needs
+find-waiting-requires c κs =
+    let y = c .before in
+    let x = y .before in
+    let s = x .before in
+    (omega (arith, x .queuefirst-of .ensures .0, y .queuefirst-of2 .ensures .0, s .pre .2 .queue-rising (s .args .n) (s .pre .0)), y .queuefirst-of2 .ensures .1, s .pre .1, s .pre .3)
 
 cast-put-waitend : tie.Need-cast-put-waitend
 cast-put-waitend c = search needs
 
 put-waitend-requires : tie.Need-put-waitend-requires
-put-waitend-requires c κs = search needs
+put-waitend-requires c κs = let s = c .before .before .before .before .before in omega (arith, s .pre .0, s .pre .1 .few-slots)
 
 -- the test that the messages pass, and the broadcasts
 abbrev waits : tie.Start → ℕ → Bool

@@ -9,6 +9,7 @@ use lib.Dec.{eqb}
 use lib.ListN.{set}
 use Rattle.lists.proofs.Tests.{clash}
 use Rattle.planner_nodes.specs.Nodes.{Nodes, nodes-of}
+use Rattle.bus_timetable.specs.Bus.{round-beginning-at}
 use Rattle.planner_sends.specs.NextSends.{next-send-from, update-next-send}
 use Rattle.planner_sends.proofs.Rests.{updated-join, relisted-as}
 use borrow.Author.Needs.{needs}
@@ -25,7 +26,7 @@ has-pending-requires : tie.Need-has-pending-requires
 has-pending-requires c κs =
     let s = c .before .before .before .before .before in
     let p = s .pre in
-    (omega (arith, p .0, p .3 .few-slots), p .3, p .4 .queue-rising (s .args .n) (p .0), p .5)
+    (p .0, p .3, p .4, p .5)
 
 sub-tick : tie.Need-sub-tick
 sub-tick c = search needs
@@ -42,7 +43,7 @@ next-send-from-requires c κs =
     let s = r .before .before .before .before .before .before .before in
     let p = s .pre in
     let t = p .4 in
-    (omega (arith, r .round-of .ensures, t .round-one), omega (arith, r .round-of .ensures, t .round-most), omega (arith, r .round-of .ensures, c .offset-of .ensures, t .offset-most (s .args .n) (p .0)), omega (arith, p .2))
+    (omega (arith, r .round-of .ensures, t .round-one), omega (arith, r .round-of .ensures, t .round-most), omega (arith, r .round-of .ensures, c .offset-of .ensures, t .offset-most (s .args .n) (p .0)), omega (arith, p .2), p .6 ∙ ap (λ (x : ℕ). round-beginning-at x (s .args .u - 1)) (sym (r .round-of .ensures)))
 
 put-nextsend-requires : tie.Need-put-nextsend-requires
 put-nextsend-requires c κs = search needs

@@ -33,11 +33,11 @@ pub record Left (b : PlanIndex) (s : Rows) (broadcastend u : ℕ) (ns m : Nodes)
   pub rest : Only-updated ns m
 
 abbrev Inv-loop : tie.InvT-loop
-Inv-loop index rows come broadcastend u new kept₀ left₀ kept left =
+Inv-loop index rows come broadcastend u new begun kept₀ left₀ kept left =
     Left (laid index) (rows-of rows) broadcastend u (nodes-of kept₀) (nodes-of kept) left
 
 abbrev μ-loop : tie.MeasureT-loop
-μ-loop index rows come broadcastend u new kept₀ left₀ kept left = left
+μ-loop index rows come broadcastend u new begun kept₀ left₀ kept left = left
 
 -- what is lent, as the definitions name it
 abbrev plan : tie.Start Inv-loop μ-loop → PlanIndex
@@ -91,7 +91,7 @@ update-next-send-requires c κs =
     let w = t .before in
     let l = w .before .before .before in
     let p = l .before .before .pre in
-    (omega (arith, t .if2 .taken, w .slots-of .ensures .0), p .0, p .1, p .2, p .3, l .loop .inv .waits .roomy .wait-long)
+    (omega (arith, t .if2 .taken, w .slots-of .ensures .0), p .0, p .1, p .2, p .3, l .loop .inv .waits .roomy .wait-long, p .5)
 
 without-lowest-node-requires : tie.Need-without-lowest-node-requires Inv-loop μ-loop
 without-lowest-node-requires c κs =
