@@ -2,3 +2,4 @@
 // `check_table` say.
 // Document 01: "A table is sound, for a plan in which 2 to 9 find nothing and a stated delay, when 12 to 20 find
 // nothing."
+#![tactic(auto)]

@@ -2,6 +2,8 @@
 // arrays of zeros by what they are for, and numbers copied from one array into another. Nothing here speaks of
 // planning.
 // Document 01: "plan arrays of 128 edges made as [v; 128], the plan struct starting empty"
+#![tactic(auto)]
+
 mod copying;
 mod numbers;
 mod zeros;

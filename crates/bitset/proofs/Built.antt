@@ -1,6 +1,7 @@
 -- Masks built from their highest bit down: their bits, their members, the turns of the loop that builds one, masks of
 -- tests that agree, and the mask of either of two tests.
 -- Assumes nothing.
+use Rattle.std.specs.Prelude.{if◌then◌else◌}
 use mathlib.Core.Path.{◌≡◌, refl, sym, ap, ◌∙◌, subst}
 use mathlib.Core.Bool.{Bool, true, false, ◌||◌}
 use mathlib.Core.List.{◌∷◌}
@@ -10,7 +11,7 @@ use native.Mathlib.Omega.{arith}
 use lib.Bits.{bit_or, or_step}
 use lib.Dec.{eqb}
 use lib.Pow.{pow_pos}
-use Rattle.lists.specs.Lists.{if◌then◌else◌, keep, upfrom, below}
+use Rattle.lists.specs.Lists.{keep, upfrom, below}
 use Rattle.lists.proofs.Keep.{shift}
 use Rattle.model.specs.Listing.{bit}
 use Rattle.bitset.specs.Masks.{members, under, mask_from}

@@ -1,6 +1,7 @@
 -- The words of a table entry's column are masks: that of the conditions known, and its bits of the combination's
 -- number.
 -- Assumes nothing.
+use Rattle.std.specs.Prelude.{if◌then◌else◌}
 use mathlib.Core.Path.{◌≡◌, refl, sym, ap, ap₂, ◌∙◌}
 use mathlib.Core.Bool.{Bool, true, false}
 use mathlib.Core.List.{List, ◌∷◌, map}
@@ -8,7 +9,7 @@ use Prim.Native.Nat.{ℕ, zero, suc, ◌+◌, ◌*◌, ◌%◌, min}
 use native.Mathlib.Omega.{arith}
 use lib.Bits.{bit_and, and_step}
 use lib.ListN.{length, get_or}
-use Rattle.lists.specs.Lists.{if◌then◌else◌, upfrom}
+use Rattle.lists.specs.Lists.{upfrom}
 use Rattle.model.specs.Plan.{Lines}
 use Rattle.model.specs.Activity.{Heard, unheard, heard}
 use Rattle.model.specs.Bus.{condition_row}

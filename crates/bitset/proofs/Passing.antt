@@ -1,13 +1,14 @@
 -- The members of a mask that pass a test, as a mask: the lowest looked at and the others left, and the same of a mask
 -- that is built from another test.
 -- Assumes nothing.
+use Rattle.std.specs.Prelude.{if◌then◌else◌}
 use mathlib.Core.Path.{◌≡◌, refl, sym, ap, ◌∙◌}
 use mathlib.Core.Bool.{Bool, true, false, ◌&&◌}
 use mathlib.Core.List.{List, ◌∷◌}
 use Prim.Native.Nat.{ℕ, ◌+◌, ◌-◌, ◌^◌, ◌≤◌, ◌<◌}
 use native.Mathlib.Omega.{arith}
 use lib.ListN.{drop}
-use Rattle.lists.specs.Lists.{if◌then◌else◌, keep, below}
+use Rattle.lists.specs.Lists.{keep, below}
 use Rattle.lists.proofs.Keep.{keep_keep}
 use Rattle.model.specs.Listing.{bit}
 use Rattle.bitset.specs.Masks.{members, mask_of, passing, mask_from}

@@ -1,6 +1,7 @@
 -- Steps for the nodes that pass a test are the steps for all nodes, where the step of a node that does not pass changes
 -- nothing.
 -- Assumes nothing.
+use Rattle.std.specs.Prelude.{if◌then◌else◌}
 use Prim.Native.Nat.{ℕ, zero, suc, ◌+◌, ◌≤◌, ◌<◌}
 use mathlib.Core.Path.{◌≡◌, refl, sym, ap, ◌∙◌}
 use mathlib.Core.Logic.{◌⊎◌, inl, inr}
@@ -10,7 +11,7 @@ use native.Mathlib.Omega.{arith}
 use lib.Dec.{eqb}
 use lib.ListN.{drop}
 use borrow.Author.Tests.{eqb-true, eqb-false}
-use Rattle.lists.specs.Lists.{if◌then◌else◌, keep, upfrom, below}
+use Rattle.lists.specs.Lists.{keep, upfrom, below}
 use Rattle.lists.proofs.Tests.{two}
 use Rattle.bitset.specs.Masks.{nodes, steps}
 use Rattle.bitset.proofs.Sets.{nodes_none}

@@ -1,7 +1,7 @@
 -- Masks: a word whose bits stand for conditions, condition 0 the lowest bit.
 -- Assumes nothing.
-use Rattle.std.specs.Prelude.{ℕ, zero, suc, ◌+◌, ◌*◌, ◌^◌, Bool, false, List, [], ◌∷◌, get_or}
-use Rattle.lists.specs.Lists.{if◌then◌else◌, keep, below}
+use Rattle.std.specs.Prelude.{ℕ, zero, suc, ◌+◌, ◌*◌, ◌^◌, Bool, false, List, [], ◌∷◌, get_or, if◌then◌else◌}
+use Rattle.lists.specs.Lists.{keep, below}
 use Rattle.model.specs.Listing.{bit}
 
 -- the conditions whose bits are set in a mask of six bits, ascending

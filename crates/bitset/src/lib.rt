@@ -1,6 +1,8 @@
 // Masks of up to six conditions, and of up to eight nodes: the members of a mask lowest first, their number, and a mask
 // built from its highest bit down; and how many combinations there are.
 // Document 01: "pending broadcasts as mask: trailing zeros gives the next, ones gives their number"
+#![tactic(auto)]
+
 ghost use Rattle.std.specs.Prelude.{◌≡◌, ◌∷◌, ◌^◌, ◌≤◌, ◌<◌, length, drop};
 ghost use Rattle.limits.specs.Limits.{CONDITIONS};
 ghost use Rattle.lists.specs.Lists.{null};

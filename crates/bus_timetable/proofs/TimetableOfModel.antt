@@ -1,6 +1,7 @@
 -- For a plan in which refusals 2 to 9 find nothing, the timetable of its arrays is that of its lines; and what this
 -- says of its bus.
 -- Assumes nothing.
+use Rattle.std.specs.Prelude.{if◌then◌else◌}
 use mathlib.Core.Path.{◌≡◌, refl, sym, ap, ◌∙◌}
 use mathlib.Core.Bool.{Bool, true, false}
 use mathlib.Core.List.Memᴰ.{head as here}
@@ -12,7 +13,7 @@ use lib.Dec.{eqb}
 use lib.ListN.{length, get_or}
 use borrow.Author.Tests.{ne_eqb}
 use Rattle.limits.specs.Limits.{ROUNDTICKS}
-use Rattle.lists.specs.Lists.{if◌then◌else◌, sum, below, fill}
+use Rattle.lists.specs.Lists.{sum, below, fill}
 use Rattle.lists.proofs.Members.{in_getD}
 use Rattle.lists.proofs.Places.{list_below}
 use Rattle.lists.proofs.Fill.{fill_at}

@@ -1,8 +1,8 @@
 -- The bus of a plan as arrays of numbers by node: what the arrays of slots give, and the timetable of a plan's lines.
 -- Assumes nothing.
-use Rattle.std.specs.Prelude.{◌≡◌, List, [], ◌∷◌, ℕ, ◌+◌, ◌-◌, ◌*◌, ◌/◌, ◌%◌, ◌≤◌, ◌<◌, eqb, leb, length, get_or}
+use Rattle.std.specs.Prelude.{◌≡◌, List, [], ◌∷◌, ℕ, ◌+◌, ◌-◌, ◌*◌, ◌/◌, ◌%◌, ◌≤◌, ◌<◌, eqb, leb, length, get_or, if◌then◌else◌}
 use Rattle.limits.specs.Limits.{SLOTS, NODES, BYTE, BYTES, HEAD, ROUNDTICKS}
-use Rattle.lists.specs.Lists.{if◌then◌else◌, below, fill}
+use Rattle.lists.specs.Lists.{below, fill}
 use Rattle.model.specs.Plan.{Lines}
 use Rattle.model.specs.Bus.{slot_ticks, round, slot_of, offset}
 use Rattle.plan.specs.declared.PlanLine.{PlanLine}

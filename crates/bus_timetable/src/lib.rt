@@ -2,6 +2,8 @@
 // beginning of it from a tick on.
 // Document 01: "a round is the sum of its slots; round 0 begins at tick 0." Document 02, point 1: "a slot lasts
 // (bytes + head) × byte ticks."
+#![tactic(auto)]
+
 mod reciprocal;
 mod search;
 
@@ -18,7 +20,7 @@ pub use search::{first_beginning, round_beginning};
 
 // The ticks of a round, their reciprocal and, by node, the ticks from a round's beginning to the node's slot, the
 // slot's ticks and its bytes.
-#[derive(Drop)]
+#[derive(Clone, Copy)]
 pub struct Timetable {
     pub round: u32,
     pub reciprocal: u32,
@@ -28,7 +30,7 @@ pub struct Timetable {
 }
 
 // where a node's slot lies, and its bytes
-#[derive(Drop)]
+#[derive(Clone, Copy)]
 struct Place {
     offset: u32,
     bytes: u32,

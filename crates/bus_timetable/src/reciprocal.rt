@@ -5,7 +5,7 @@ ghost use Rattle.limits.specs.Limits.{ROUNDTICKS};
 ghost use Rattle.bus_timetable.specs.Bus.{SCALE, Shared, reciprocal_of};
 
 // How often a round lies in a number of ticks, and what is left of them.
-#[derive(Drop)]
+#[derive(Clone, Copy)]
 struct Share {
     whole: u32,
     rest: u32,

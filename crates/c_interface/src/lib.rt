@@ -1,6 +1,8 @@
 // The functions that other software calls, over numbers and byte slices. include/riscadru.h says each contract in
 // words.
 // Document 01: "The firmware calls the lookup from C with numbers and byte slices"
+#![tactic(auto)]
+
 mod checking;
 mod copying;
 mod lookup;

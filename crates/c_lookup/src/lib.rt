@@ -1,5 +1,7 @@
 // The kernel lookup and the row query over a table lent as bytes.
 // Document 01: "stray last words or bytes are ignored"
+#![tactic(auto)]
+
 mod rows;
 mod search;
 mod table;

@@ -15,7 +15,7 @@ use planner::{Planned, plan_table};
 
 // What is answered for a plan that is planned into lent bytes: how many bytes of the table were written, or the number
 // of the refusal.
-#[derive(Drop)]
+#[derive(Clone, Copy)]
 pub enum Put {
     Wrote(usize),
     Refused(u32),

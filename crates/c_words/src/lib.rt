@@ -1,6 +1,8 @@
 // Words of 32 bits in bytes, the lowest byte first, read and written; and the number in which C is answered a refusal.
 // Document 01: "The firmware calls the lookup from C with numbers and byte slices, the plan as its text, words
 // little-endian."
+#![tactic(auto)]
+
 mod numbers;
 mod words;
 mod words_out;

@@ -2,6 +2,8 @@
 // of both.
 // Document 02, point 2: "A program reads a plan up to the first empty line, then a listing as printed in document 01,
 // and prints `(accepted)` or the refusal."
+#![tactic(auto)]
+
 mod printed;
 mod texts;
 

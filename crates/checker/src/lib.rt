@@ -2,6 +2,8 @@
 // a printed listing; accepted, or the number of the first refusal that applies, out.
 // Document 01: "A table is sound, for a plan in which 2 to 9 find nothing and a stated delay, when 12 to 20 find
 // nothing."
+#![tactic(auto)]
+
 ghost use Rattle.std.specs.Prelude.{◌≡◌};
 ghost use Rattle.model.specs.Checking.{check};
 ghost use Rattle.plan.specs.Memory.{lines};

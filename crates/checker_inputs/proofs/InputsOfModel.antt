@@ -1,6 +1,7 @@
 -- For a plan in which refusals 2 to 9 find nothing and arrays that hold its plan index and the entries that a
 -- combination meets, what `too_early` answers is what refusal 16 says of the combination.
 -- Assumes nothing.
+use Rattle.std.specs.Prelude.{if◌then◌else◌}
 use mathlib.Core.Path.{◌≡◌, refl, sym, ap, ◌∙◌}
 use mathlib.Core.Logic.{◌⊎◌, inl, inr}
 use mathlib.Core.Bool.{Bool, true, false, not, ◌&&◌, and_assoc}
@@ -10,7 +11,7 @@ use native.Mathlib.Omega.{arith}
 use lib.Dec.{eqb, ltb}
 use lib.ListN.{length, get_or}
 use borrow.Author.Tests.{ltb-true, ltb-false, le-ltb}
-use Rattle.lists.specs.Lists.{if◌then◌else◌, any}
+use Rattle.lists.specs.Lists.{any}
 use Rattle.lists.proofs.Tests.{two}
 use Rattle.lists.proofs.Members.{any_same}
 use Rattle.model.specs.Plan.{When, always, on, edge, decider, into}

@@ -2,8 +2,8 @@
 -- the met entry's tick plus what the row lasts, plus 1; `span` has what the row lasts. A clock is a tick plus 1. The
 -- other arrays are those of a plan's plan index, and `active` has, by process, 0 where it is not active.
 -- Assumes nothing.
-use Rattle.std.specs.Prelude.{Bool, not, ◌&&◌, List, ℕ, ◌-◌, eqb, ltb, get_or}
-use Rattle.lists.specs.Lists.{if◌then◌else◌, any}
+use Rattle.std.specs.Prelude.{Bool, not, ◌&&◌, List, ℕ, ◌-◌, eqb, ltb, get_or, if◌then◌else◌}
+use Rattle.lists.specs.Lists.{any}
 use Rattle.plan_index.specs.declared.PlanIndex.{PlanIndex}
 use Rattle.log_rows.specs.Rows.{Rows}
 use Rattle.log_queries.specs.Reading.{came_by, placed_by, edges_into, delivered_by}

@@ -13,7 +13,7 @@ use Rattle.lists.specs.Ordered.{Ascending}
 use Rattle.lists.proofs.Tests.{is_true, same_test, same_equal, equal_same}
 use Rattle.lists.proofs.Order.{put_all_ascends}
 use Rattle.model.specs.Plan.{Lines}
-use Rattle.model.specs.Bus.{rows, is_process, row_node, row_bytes}
+use Rattle.model.specs.Bus.{is_process, row_node, row_bytes}
 use Rattle.model.specs.Table.{Entry, Frame, frame_of, frame_key, wider, frames, frame_words, entries_of, frames_of}
 use Rattle.model.specs.Checking.{Sound}
 use Rattle.laws.proofs.Formed.{Formed, formed}

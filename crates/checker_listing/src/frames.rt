@@ -19,7 +19,7 @@ use limits::PRINTEDFRAMES;
 use plan_index::{Index, processes_of, sender_of, size_of};
 
 // The frame that an item alone would give: its tick, its sender's node, and its last byte counted from 1.
-#[derive(Drop)]
+#[derive(Clone, Copy)]
 pub struct ItemFrame {
     pub tick: u32,
     pub node: u32,

@@ -2,6 +2,8 @@
 // its delay, then 22 of its frames and its pass-over counts. It goes by the listing reader's contract alone.
 // Document 02, point 2: "22: its frame lines are not those its entries give, or its passed line is not the plan's
 // pass-over count, tried after 20"; point 3: "one line for each node"
+#![tactic(auto)]
+
 mod counts;
 mod frame_ticks;
 mod frames;

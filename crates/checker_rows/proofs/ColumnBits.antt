@@ -1,6 +1,7 @@
 -- An entry in which refusal 13 finds nothing is met in a combination just where its values are the bits of the
 -- combination's number that the entry's known bits pick out.
 -- Assumes nothing.
+use Rattle.std.specs.Prelude.{if◌then◌else◌}
 use mathlib.Core.Path.{◌≡◌, refl, sym, ap, ◌∙◌}
 use mathlib.Core.Logic.{◌⊎◌, inl, inr}
 use mathlib.Core.Bool.{Bool, true, false, ◌&&◌}
@@ -12,7 +13,6 @@ use lib.Bits.{bit_and, and_step}
 use lib.Dec.{eqb, leb}
 use lib.ListN.{length, get_or}
 use borrow.Author.Tests.{eqb-true, eqb-false, eq-eqb, ne_eqb, leb-true, leb-false, ltb-false, lt-ltb, not-false}
-use Rattle.lists.specs.Lists.{if◌then◌else◌}
 use Rattle.lists.proofs.Tests.{two, both, neither, not_both, same_test}
 use Rattle.lists.proofs.Members.{in_getD}
 use Rattle.model.specs.Plan.{Lines}

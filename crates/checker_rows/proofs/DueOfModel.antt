@@ -1,5 +1,6 @@
 -- The array of due rows says of each row of the plan whether it is due in the combination.
 -- Assumes nothing.
+use Rattle.std.specs.Prelude.{if◌then◌else◌}
 use mathlib.Core.Path.{◌≡◌, refl, sym, ap, ◌∙◌}
 use mathlib.Core.Bool.{Bool, true, false, not, ◌&&◌}
 use mathlib.Core.List.{List, [], ◌∷◌}
@@ -9,7 +10,6 @@ use lib.Dec.{eqb}
 use lib.ListN.{length, get_or, set, replicate, length-map}
 use lib.Seq.{ext_get_or}
 use borrow.Author.Tests.{eqb-true, eqb-false, lt-ltb, le-ltb}
-use Rattle.lists.specs.Lists.{if◌then◌else◌}
 use Rattle.lists.proofs.Fill.{zeros_at, fill_at}
 use Rattle.model.specs.Plan.{Lines, When, always, on, edge, decider, local}
 use Rattle.model.specs.Activity.{Heard, heard, unheard, is, meets, all_heard, combinations, may_run, active, carries}

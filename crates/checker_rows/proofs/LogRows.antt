@@ -1,11 +1,12 @@
 -- Where arrays by row hold a log, a test over the log, or over its pairs, is a test over the rows.
 -- Assumes nothing.
+use Rattle.std.specs.Prelude.{if◌then◌else◌}
 use mathlib.Core.Path.{◌≡◌, refl, sym, ap, ◌∙◌}
 use mathlib.Core.Bool.{Bool, true, false, ◌&&◌, ◌||◌}
 use mathlib.Core.List.{List, [], ◌∷◌, Memᴰ as In}
 use Prim.Native.Nat.{ℕ, ◌-◌, ◌≤◌, ◌<◌}
 use native.Mathlib.Omega.{arith}
-use Rattle.lists.specs.Lists.{if◌then◌else◌, any, keep, upfrom}
+use Rattle.lists.specs.Lists.{any, keep, upfrom}
 use Rattle.lists.proofs.Tests.{both, join, same_test}
 use Rattle.lists.proofs.Members.{any_in, in_any, any_same, in_upfrom, upfrom_in}
 use Rattle.model.specs.Plan.{Lines}

@@ -2,6 +2,7 @@
 -- it: whether some row is met another number of times than it is due, and, where none is, the log of the met entries
 -- with their ends, places and known bits.
 -- Assumes nothing.
+use Rattle.std.specs.Prelude.{if◌then◌else◌}
 use mathlib.Core.Path.{◌≡◌, refl, sym, ap, ◌∙◌, subst}
 use mathlib.Core.Logic.{◌⊎◌, inl, inr}
 use mathlib.Core.Bool.{Bool, true, false, not}
@@ -14,7 +15,7 @@ use native.Mathlib.Omega.{arith}
 use lib.Dec.{eqb, ltb}
 use lib.ListN.{length, get_or, length-map}
 use borrow.Author.Tests.{eqb-true, eq-eqb, ltb-true, ltb-false}
-use Rattle.lists.specs.Lists.{if◌then◌else◌, any, keep, below}
+use Rattle.lists.specs.Lists.{any, keep, below}
 use Rattle.lists.proofs.Tests.{two}
 use Rattle.lists.proofs.Members.{none_in, keep_in, in_keep, below_in, any_same, one_or_none}
 use Rattle.lists.proofs.Keep.{keep_map, keep_same}

@@ -1,6 +1,7 @@
 -- What stands at a row of an array after all entries of a table: what the met entries of that row leave there one after
 -- another.
 -- Assumes nothing.
+use Rattle.std.specs.Prelude.{if◌then◌else◌}
 use mathlib.Core.Path.{◌≡◌, refl, sym, ap, ◌∙◌}
 use mathlib.Core.Logic.{◌⊎◌, inl, inr}
 use mathlib.Core.Bool.{Bool, true, false}
@@ -13,7 +14,7 @@ use lib.Dec.{eqb}
 use lib.ListN.{length, get_or, set, replicate, length-set, length-replicate}
 use lib.Seq.{get_or-set_same, get_or-set_other}
 use borrow.Author.Tests.{eqb-true, eqb-false, ne_eqb}
-use Rattle.lists.specs.Lists.{if◌then◌else◌, keep}
+use Rattle.lists.specs.Lists.{keep}
 use Rattle.lists.proofs.Tests.{two}
 use Rattle.lists.proofs.Fill.{zeros_at}
 use Rattle.model.specs.Table.{Entry, entries_of}

@@ -3,9 +3,9 @@
 -- meet the `when`, `remote` not 0 where it is between nodes. By condition: `decider` has the process that decides it.
 -- `conditionrow` is the row of condition 0.
 -- Assumes nothing.
-use Rattle.std.specs.Prelude.{ℕ, ◌-◌, Bool, not, List, eqb, ltb, get_or, replicate}
+use Rattle.std.specs.Prelude.{ℕ, ◌-◌, Bool, not, List, eqb, ltb, get_or, replicate, if◌then◌else◌}
 use Rattle.limits.specs.Limits.{ROWS}
-use Rattle.lists.specs.Lists.{if◌then◌else◌, any, below, fill}
+use Rattle.lists.specs.Lists.{any, below, fill}
 use Rattle.log_queries.specs.Reading.{may_run_by}
 use Rattle.log_rows.specs.Rows.{Rows, with_run, with_unmet, with_comes}
 use Rattle.plan_index.specs.declared.PlanIndex.{PlanIndex}

@@ -1,10 +1,9 @@
 -- The met entries of one combination, in arrays by row: which entries are met, and what each of them stores.
 -- Assumes nothing.
-use Rattle.std.specs.Prelude.{◌≡◌, ℕ, ◌+◌, ◌^◌, ◌<◌, ◌≤◌, Bool, eqb, length, get_or, set, replicate}
+use Rattle.std.specs.Prelude.{◌≡◌, ℕ, ◌+◌, ◌^◌, ◌<◌, ◌≤◌, Bool, eqb, length, get_or, set, replicate, if◌then◌else◌}
 use mathlib.Core.List.{List, [], ◌∷◌, Memᴰ as In}
 use Rattle.std.specs.Int.Bits.{bit_and}
 use Rattle.limits.specs.Limits.{ROWS}
-use Rattle.lists.specs.Lists.{if◌then◌else◌}
 use Rattle.model.specs.Table.{Entry, entries_of}
 use Rattle.log_rows.specs.Rows.{Rows, with_comes, with_place}
 use Rattle.checker_rows.specs.declared.met.MetRows.{MetRows}

@@ -14,7 +14,7 @@ use plan_index::{Index, span_of};
 
 // The met entries of a combination, by row: how many there are (0, 1, or 2 for more), and the known bits of the last
 // one's column; 0 where none is met.
-#[derive(Drop)]
+#[derive(Clone, Copy)]
 pub struct MetRows {
     pub count: [u32; ROWS],
     pub known: [u32; ROWS],

@@ -1,5 +1,7 @@
 // Refusal 13 of an entry, and refusals 15, 17 and 18 of a combination's met entries.
 // Document 01: "In some combination a met column uses a value not known by its tick."
+#![tactic(auto)]
+
 mod entry_form;
 mod overlaps;
 mod slot_beginnings;

@@ -1,6 +1,7 @@
 -- What is found in all combinations gives the answer of refusals 14 to 20, and so the checker's answer is that of the
 -- model.
 -- Assumes nothing.
+use Rattle.std.specs.Prelude.{if◌then◌else◌}
 use mathlib.Core.Path.{◌≡◌, refl, sym, ap, ◌∙◌}
 use mathlib.Core.Logic.{◌⊎◌, inl, inr}
 use mathlib.Core.Bool.{Bool, true, false, not}
@@ -10,7 +11,7 @@ use native.Mathlib.Omega.{arith}
 use lib.Dec.{eqb}
 use lib.ListN.{length, get_or}
 use borrow.Author.Tests.{eqb-true, eq-eqb}
-use Rattle.lists.specs.Lists.{if◌then◌else◌, any, below, greatest}
+use Rattle.lists.specs.Lists.{any, below, greatest}
 use Rattle.lists.proofs.Tests.{two}
 use Rattle.lists.proofs.Members.{map_same, below_in}
 use Rattle.lists.proofs.Keep.{map_map}

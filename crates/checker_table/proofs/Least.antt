@@ -2,6 +2,7 @@
 -- sentence that applies to some element: so sentences tried element by element give the refusal of sentences each tried
 -- over the whole list before the next.
 -- Assumes nothing.
+use Rattle.std.specs.Prelude.{if◌then◌else◌}
 use mathlib.Core.Path.{◌≡◌, refl, ap, ◌∙◌}
 use mathlib.Core.Bool.{Bool, true, false, ◌||◌}
 use mathlib.Core.List.Memᴰ.{head as here}
@@ -10,7 +11,7 @@ use mathlib.Core.List.{List, [], ◌∷◌, Memᴰ as In}
 use Prim.Native.Nat.{ℕ, ◌+◌, ◌-◌, ◌<◌, ◌≤◌, min}
 use native.Mathlib.Omega.{arith}
 use lib.Dec.{eqb}
-use Rattle.lists.specs.Lists.{if◌then◌else◌, any, upfrom, below}
+use Rattle.lists.specs.Lists.{any, upfrom, below}
 use Rattle.lists.proofs.Loops.{upfrom_start, upfrom_next, upfrom_end}
 use Rattle.model.specs.Refusals.{Refusal, refused, sentence}
 use Rattle.checker_table.specs.FirstRefusal.{first_of}
@@ -60,6 +61,7 @@ module _ {A : Type 0} where
   pub least_in : (f : A → ℕ) (xs : List A) {x : A} → In x xs → least f xs ≤ f x
   least_in f (y ∷ ys) {x} (here q) = let e : f x ≡ f y = ap f q in omega arith
   least_in f (y ∷ ys) (there m) = let l = least_in f ys m in omega arith
+  least_in f [] {x = x} x3 = elim x3 [ ]
 
   -- a sentence whose number is not above those behind it: the least is its number where it applies to some element
   least_sentence : (n : ℕ) (t : A → Bool) (g : A → ℕ) (xs : List A) → n ≤ 20 → ((x : A) → n ≤ g x) →

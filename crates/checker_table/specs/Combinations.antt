@@ -1,7 +1,7 @@
 -- What is found in one combination and in all, in the words of a plan's plan index and of the rows of a combination.
 -- Assumes nothing.
-use Rattle.std.specs.Prelude.{◌≡◌, false, List, [], ◌∷◌, map, ℕ, ◌%◌, min, length}
-use Rattle.lists.specs.Lists.{if◌then◌else◌, any, below, greatest}
+use Rattle.std.specs.Prelude.{◌≡◌, false, List, [], ◌∷◌, map, ℕ, ◌%◌, min, length, if◌then◌else◌}
+use Rattle.lists.specs.Lists.{any, below, greatest}
 use Rattle.model.specs.Plan.{Lines}
 use Rattle.model.specs.Refusals.{nothing, plan_refusal}
 use Rattle.model.specs.Table.{entries_of}

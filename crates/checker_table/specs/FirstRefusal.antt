@@ -1,8 +1,7 @@
 -- The first of refusals 15 to 19 that applies in one combination, in the words of a plan's plan index and of the rows
 -- of the combination.
 -- Assumes nothing.
-use Rattle.std.specs.Prelude.{Bool, List, ℕ}
-use Rattle.lists.specs.Lists.{if◌then◌else◌}
+use Rattle.std.specs.Prelude.{Bool, List, ℕ, if◌then◌else◌}
 use Rattle.plan_index.specs.declared.PlanIndex.{PlanIndex}
 use Rattle.plan_index.specs.Index.{Bounded}
 use Rattle.log_rows.specs.Rows.{Rows}

@@ -1,7 +1,6 @@
 -- What the checker answers.
 -- Assumes nothing.
-use Rattle.std.specs.Prelude.{ℕ, eqb}
-use Rattle.lists.specs.Lists.{if◌then◌else◌}
+use Rattle.std.specs.Prelude.{ℕ, eqb, if◌then◌else◌}
 use Rattle.model.specs.Refusals.{Refusal, nothing, refused}
 use Rattle.checker_table.specs.declared.verdict.Found.{Found}
 use Rattle.checker_table.specs.declared.verdict.Checked.{Checked}

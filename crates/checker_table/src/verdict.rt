@@ -4,14 +4,14 @@ ghost use Rattle.checker_table.specs.Verdict.{verdict_by};
 
 // What is found in one combination, or in all: the first of refusals 14 to 19 that applies, 20 if none does, and the
 // delay.
-#[derive(Drop)]
+#[derive(Clone, Copy)]
 pub struct Found {
     pub first: u32,
     pub delay: u32,
 }
 
 // What the checker answers: accepted, or the number of the first refusal that applies.
-#[derive(Drop)]
+#[derive(Clone, Copy)]
 pub enum Checked {
     Accepted,
     Refused(u32),

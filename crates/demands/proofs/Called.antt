@@ -31,7 +31,7 @@ use Rattle.c_text.specs.Copy.{Copies}
 use Rattle.c_text.specs.Listing.{Lists}
 use Rattle.c_interface.specs.Tables.{Tables}
 use Rattle.c_interface.specs.Listings.{ChecksListingText}
-use denote.Ref.{Bor}
+use denote.Ref.{Bor, MutBor}
 use Rattle.demands.specs.Calls as calls
 use Rattle.demands.proofs.Contracts.{WritePlanSaid, PlanTableSaid, WriteListingSaid, WriteRefusalSaid, RowEntriesSaid}
 
@@ -41,6 +41,10 @@ lent_at place x = record { ref_ptr = place; now = x }
 
 abbrev lent : {X : Type 0} → X → Bor X
 lent x = lent_at (0, 0) x
+
+-- a reference through which a value may be changed
+abbrev lent_mut : {X : Type 0} → X → MutBor X
+lent_mut x = record { ref_ptr = (0, 0); ghost_name = 0; now = x }
 
 pub empty_called : (p : Plan) → p ≡ empty_plan → calls.Empty p
 empty_called p e =
@@ -56,28 +60,28 @@ read_plan_called text r e =
 
 pub write_plan_called : (p : Plan) (out out-now : List ℕ) (r : Written) → WritePlanSaid p out out-now r → calls.WritePlan p out out-now r
 write_plan_called p out out-now r e =
-    calls.write_plan (record { lifetimes = ([], tt); handed = (p, (lent out, tt)); result = r; ended = (p, (lent out-now, tt)); learnt = (e.0, e.1) })
+    calls.write_plan (record { lifetimes = ([], tt); handed = (p, (lent_mut out, tt)); result = r; ended = (p, (lent_mut out-now, tt)); learnt = (e.0, e.1) })
 
 pub plan_table_called : (p : Plan) (table frames passed table-now frames-now passed-now : List ℕ) (r : Planned) → PlanTableSaid p table frames passed table-now frames-now passed-now r →
     calls.PlanTable p table frames passed table-now frames-now passed-now r
 plan_table_called p table frames passed table-now frames-now passed-now r e =
-    calls.plan_table (record { lifetimes = ([], ([], ([], tt))); handed = (p, (lent table, (lent frames, (lent passed, tt)))); result = r; ended = (p, (lent table-now, (lent frames-now, (lent passed-now, tt)))); learnt = (e.0, (e.1, (e.2, e.3))) })
+    calls.plan_table (record { lifetimes = ([], ([], ([], tt))); handed = (p, (lent_mut table, (lent_mut frames, (lent_mut passed, tt)))); result = r; ended = (p, (lent_mut table-now, (lent_mut frames-now, (lent_mut passed-now, tt)))); learnt = (e.0, (e.1, (e.2, e.3))) })
 
 pub write_listing_called : (p : Plan) (delay : ℕ) (passed table frames out out-now : List ℕ) (r : Listed) → WriteListingSaid p delay passed table frames out out-now r → calls.WriteListing p delay passed table frames out out-now r
 write_listing_called p delay passed table frames out out-now r e =
-    calls.write_listing (record { lifetimes = ([], ([], tt)); handed = (p, (delay, (lent passed, (lent table, (lent frames, (lent out, tt)))))); result = r; ended = (p, (delay, (lent passed, (lent table, (lent frames, (lent out-now, tt)))))); learnt = (e.0, e.1) })
+    calls.write_listing (record { lifetimes = ([], ([], tt)); handed = (p, (delay, (lent passed, (lent table, (lent frames, (lent_mut out, tt)))))); result = r; ended = (p, (delay, (lent passed, (lent table, (lent frames, (lent_mut out-now, tt)))))); learnt = (e.0, e.1) })
 
 pub write_refusal_called : (number : ℕ) (out out-now : List ℕ) (r : Listed) → WriteRefusalSaid number out out-now r → calls.WriteRefusal number out out-now r
 write_refusal_called number out out-now r e =
-    calls.write_refusal (record { lifetimes = ([], tt); handed = (number, (lent out, tt)); result = r; ended = (number, (lent out-now, tt)); learnt = (e.0, e.1) })
+    calls.write_refusal (record { lifetimes = ([], tt); handed = (number, (lent_mut out, tt)); result = r; ended = (number, (lent_mut out-now, tt)); learnt = (e.0, e.1) })
 
 pub list_plan_called : (text out out-now : List ℕ) (r : Listed) → ListsPlan text out out-now r → calls.ListPlan text out out-now r
 list_plan_called text out out-now r e =
-    calls.list_plan (record { lifetimes = ([], ([], tt)); handed = (lent text, (lent out, tt)); result = r; ended = (lent text, (lent out-now, tt)); learnt = e })
+    calls.list_plan (record { lifetimes = ([], ([], tt)); handed = (lent text, (lent_mut out, tt)); result = r; ended = (lent text, (lent_mut out-now, tt)); learnt = e })
 
 pub print_all_called : (text out out-now : List ℕ) (r : ℕ) → Prints text out out-now r → calls.PrintAll text out out-now r
 print_all_called text out out-now r e =
-    calls.print_all (record { lifetimes = ([], ([], tt)); handed = (lent text, (lent out, tt)); result = r; ended = (lent text, (lent out-now, tt)); learnt = e })
+    calls.print_all (record { lifetimes = ([], ([], tt)); handed = (lent text, (lent_mut out, tt)); result = r; ended = (lent text, (lent_mut out-now, tt)); learnt = e })
 
 pub check_table_called : (p : Plan) (table : List ℕ) (delay : ℕ) (r : Checked) → r ≡ checker.answer_of (check (lines p) table delay) → calls.CheckTable p table delay r
 check_table_called p table delay r e =
@@ -89,7 +93,7 @@ check_listing_called p listing r e =
 
 pub print_check_called : (input out out-now : List ℕ) (r : ℕ) → check-program.Prints input out out-now r → calls.PrintCheck input out out-now r
 print_check_called input out out-now r e =
-    calls.print_check (record { lifetimes = ([], ([], tt)); handed = (lent input, (lent out, tt)); result = r; ended = (lent input, (lent out-now, tt)); learnt = e })
+    calls.print_check (record { lifetimes = ([], ([], tt)); handed = (lent input, (lent_mut out, tt)); result = r; ended = (lent input, (lent_mut out-now, tt)); learnt = e })
 
 pub row_entries_called : (place : ℕ × ℕ) (table : List ℕ) (row : ℕ) (part-place : ℕ × ℕ) (part : List ℕ) → RowEntriesSaid place table row part-place part → calls.RowEntries place table row part-place part
 row_entries_called place table row part-place part e =
@@ -101,15 +105,15 @@ lookup_called p table node tick heard values from r e =
 
 pub c_copy_plan_called : (text out out-now : List ℕ) (r : ℕ) → Copies text out out-now r → calls.CCopyPlan text out out-now r
 c_copy_plan_called text out out-now r e =
-    calls.c_copy_plan (record { lifetimes = ([], ([], tt)); handed = (lent text, (lent out, tt)); result = r; ended = (lent text, (lent out-now, tt)); learnt = e })
+    calls.c_copy_plan (record { lifetimes = ([], ([], tt)); handed = (lent text, (lent_mut out, tt)); result = r; ended = (lent text, (lent_mut out-now, tt)); learnt = e })
 
 pub c_plan_table_called : (text table frames totals table-now frames-now totals-now : List ℕ) (r : ℕ) → Tables text table frames totals table-now frames-now totals-now r → calls.CPlanTable text table frames totals table-now frames-now totals-now r
 c_plan_table_called text table frames totals table-now frames-now totals-now r e =
-    calls.c_plan_table (record { lifetimes = ([], ([], ([], ([], tt)))); handed = (lent text, (lent table, (lent frames, (lent totals, tt)))); result = r; ended = (lent text, (lent table-now, (lent frames-now, (lent totals-now, tt)))); learnt = e })
+    calls.c_plan_table (record { lifetimes = ([], ([], ([], ([], tt)))); handed = (lent text, (lent_mut table, (lent_mut frames, (lent_mut totals, tt)))); result = r; ended = (lent text, (lent_mut table-now, (lent_mut frames-now, (lent_mut totals-now, tt)))); learnt = e })
 
 pub c_plan_listing_called : (text out out-now : List ℕ) (r : ℕ) → Lists text out out-now r → calls.CPlanListing text out out-now r
 c_plan_listing_called text out out-now r e =
-    calls.c_plan_listing (record { lifetimes = ([], ([], tt)); handed = (lent text, (lent out, tt)); result = r; ended = (lent text, (lent out-now, tt)); learnt = e })
+    calls.c_plan_listing (record { lifetimes = ([], ([], tt)); handed = (lent text, (lent_mut out, tt)); result = r; ended = (lent text, (lent_mut out-now, tt)); learnt = e })
 
 pub c_check_table_called : (text table : List ℕ) (delay r : ℕ) → Checks text table delay r → calls.CCheckTable text table delay r
 c_check_table_called text table delay r e =

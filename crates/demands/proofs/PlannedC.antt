@@ -10,7 +10,6 @@ use mathlib.Core.List.{List, [], ◌∷◌, append-nil, Memᴰ as In}
 use native.Mathlib.Nat.{pow-le-pow_right}
 use native.Mathlib.Omega.{arith}
 use lib.ListN.{length, get_or, take}
-use Rattle.lists.specs.Front.{front}
 use Rattle.lists.proofs.Front.{front_written}
 use Rattle.model.specs.Plan.{Lines}
 use Rattle.model.specs.Activity.{Heard, heard, unheard}

@@ -3,7 +3,7 @@
 use Prim.Native.Nat.{ℕ}
 use mathlib.Core.Path.{◌≡◌, sym, ◌∙◌}
 use Rattle.model.specs.Plan.{Lines}
-use Rattle.model.specs.Bus.{round, offset, round_beginning, first_beginning}
+use Rattle.model.specs.Bus.{first_beginning}
 use Rattle.model.specs.Refusals.{nothing}
 use Rattle.laws.proofs.Good.{Good, good}
 use Rattle.laws.proofs.Slots.{beginning_begins, beginning_within, beginning_first, round_current}

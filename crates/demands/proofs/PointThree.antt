@@ -1,20 +1,19 @@
 -- Document 02, point 3, as a theorem: see specs/PointThree.antt.
 -- Assumes nothing.
-use Prim.Native.Nat.{ℕ, zero, suc, ◌+◌, ◌*◌, ◌/◌, ◌≤◌, ◌<◌}
+use Prim.Native.Nat.{ℕ, ◌+◌, ◌<◌}
 use mathlib.Core.Path.{◌≡◌, refl, sym, ap, subst, ◌∙◌}
-use mathlib.Core.Bool.{true}
-use mathlib.Core.List.{List, [], ◌∷◌, ◌++◌, append_assoc, append-nil}
+use mathlib.Core.List.{List, [], ◌++◌, append_assoc, append-nil}
 use native.Mathlib.Omega.{arith}
 use lib.ListN.{length, get_or, drop, get_or-append}
 use Rattle.lists.specs.Lists.{all, each}
 use Rattle.lists.specs.Front.{front}
 use Rattle.lists.proofs.Keep.{getD_upfrom}
-use Rattle.lists.proofs.Tests.{both, join}
+use Rattle.lists.proofs.Tests.{both}
 use Rattle.model.specs.Plan.{Lines}
-use Rattle.model.specs.Refusals.{Refusal, nothing, refused, plan_refusal}
+use Rattle.model.specs.Refusals.{nothing, plan_refusal}
 use Rattle.model.specs.Table.{Result, plans, passed_by, result}
-use Rattle.model.specs.Text.{text, field, short, Means}
-use Rattle.model.specs.Listing.{passed_line, passed_lines, entry_line, frame_line, listing, printed, plan_listing}
+use Rattle.model.specs.Text.{text, field, short}
+use Rattle.model.specs.Listing.{passed_lines, entry_line, frame_line, listing, printed, plan_listing}
 use Rattle.model.specs.ListingText.{States, not_listed, no_listing, listed_refusal, by_listing}
 use Rattle.model.specs.Checking.{check, Sound}
 use Rattle.laws.proofs.Good.{good}
@@ -29,7 +28,6 @@ use Rattle.checker_table.specs.declared.verdict.Checked.{Checked}
 use Rattle.checker_table.specs.declared.verdict.Checked.TheVariants as checked
 use Rattle.checker_table.specs.Verdict.{answer_of}
 use Rattle.checker_listing.specs.Listing.{Checks}
-use Rattle.demands.specs.Sentences.{plan_sentences, FirstOf}
 use Rattle.demands.specs.PointThree.{passed_by_node, begins, Point3}
 use Rattle.demands.proofs.Contracts.{check_listing_says, c_plan_table_says}
 use Rattle.demands.proofs.Firsts.{plan_first}

@@ -1,6 +1,6 @@
 -- Document 02, point 2, as a theorem: see specs/PointTwo.antt.
 -- Assumes nothing.
-use Prim.Native.Nat.{ℕ, ◌+◌, ◌≤◌}
+use Prim.Native.Nat.{ℕ, ◌≤◌}
 use mathlib.Core.Path.{◌≡◌, refl, sym, ap, subst, ◌∙◌}
 use mathlib.Core.Bool.{false, ◌||◌}
 use mathlib.Core.List.{List, ◌∷◌, ◌++◌}
@@ -8,19 +8,17 @@ use native.Mathlib.Omega.{arith}
 use borrow.Author.Tests.{ltb-false, le-ltb}
 use lib.Dec.{ltb}
 use lib.ListN.{length, take}
-use Rattle.lists.specs.Lists.{sum}
 use Rattle.lists.specs.Front.{front}
 use Rattle.lists.proofs.Tests as tests
 use Rattle.lists.proofs.Front.{front_written}
 use Rattle.model.specs.Plan.{Lines}
 use Rattle.model.specs.Refusals.{Refusal, nothing, refused, or_else, plan_refusal}
 use Rattle.model.specs.Text.{Means, unless_refused, fitting, bytes_after}
-use Rattle.model.specs.Table.{Result, made, result, frames, entry_words, frame_words, room_refusal}
+use Rattle.model.specs.Table.{Result, made, result, entry_words, frame_words, room_refusal}
 use Rattle.model.specs.Checking.{check, Sound}
 use Rattle.model.specs.Lookup.{lookup}
-use Rattle.model.specs.Listing.{listing, words_listing, passed_lines, printed, plan_listing, listing_refusal}
+use Rattle.model.specs.Listing.{words_listing, printed, plan_listing, listing_refusal}
 use Rattle.model.specs.ListingText.{States, ChecksListing, ChecksTexts, ChecksInput, check_prints}
-use Rattle.laws.proofs.Accepted.{Accepted}
 use Rattle.laws.proofs.Demand.{sound_runs_right}
 use Rattle.laws.proofs.Good.{pass}
 use Rattle.laws.proofs.Words.{entries_back, frames_back, words_back, entry_words_count, frame_words_count}

@@ -5,7 +5,6 @@ use mathlib.Core.Path.{◌≡◌, refl, sym, ap, subst, ◌∙◌}
 use mathlib.Core.List.{List}
 use native.Mathlib.Omega.{arith}
 use lib.ListN.{length, take}
-use Rattle.lists.specs.Lists.{sum}
 use Rattle.lists.specs.Front.{front}
 use Rattle.lists.proofs.Front.{front_written}
 use Rattle.model.specs.Plan.{Lines}

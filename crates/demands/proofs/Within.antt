@@ -1,5 +1,6 @@
 -- What is found in a table lies in it: the entry that the lookup finds, and the part that holds a row's entries.
 -- Assumes nothing.
+use Rattle.std.specs.Prelude.{if◌then◌else◌}
 use Prim.Native.Nat.{ℕ, suc, ◌+◌, ◌*◌, ◌≤◌, ◌<◌}
 use mathlib.Core.Path.{◌≡◌, refl}
 use mathlib.Core.Bool.{Bool, true, false}
@@ -7,7 +8,6 @@ use mathlib.Core.List.{List, [], ◌∷◌}
 use native.Mathlib.Omega.{arith}
 use lib.Dec.{eqb}
 use lib.ListN.{length, drop, length-drop}
-use Rattle.lists.specs.Lists.{if◌then◌else◌}
 use Rattle.model.specs.Plan.{Lines}
 use Rattle.model.specs.Table.{Entry, entries_of}
 use Rattle.model.specs.Lookup.{Found, entry, none, before_row, run_of_row, row_length, row_start, fits, find}

@@ -1,7 +1,6 @@
 -- A unit's kernel: the answers that it gets from calls of the lookup, in memory and from C.
 -- Assumes nothing.
-use Rattle.std.specs.Prelude.{ℕ, ◌-◌, ◌≤◌, ◌<◌, List, eqb, ltb, length}
-use Rattle.lists.specs.Lists.{if◌then◌else◌}
+use Rattle.std.specs.Prelude.{ℕ, ◌-◌, ◌≤◌, ◌<◌, List, eqb, ltb, length, if◌then◌else◌}
 use Rattle.model.specs.Plan.{Lines}
 use Rattle.model.specs.Lookup.{entry, none, refusal}
 use Rattle.model.specs.Lookup as m

@@ -10,7 +10,7 @@ use limits::ROWS;
 use plan::Plan;
 
 // The node of each row of a plan, zeros past them, and how many rows there are.
-#[derive(Drop)]
+#[derive(Clone, Copy)]
 pub struct RowNodes {
     pub node: [u32; ROWS],
     pub rows: usize,

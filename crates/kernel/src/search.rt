@@ -11,7 +11,7 @@ use arrays::wide;
 use limits::ROWS;
 
 // What the lookup answers: the number of an entry, that there is none, or the refusal of the plan, 2 to 9.
-#[derive(Drop)]
+#[derive(Clone, Copy)]
 pub enum Found {
     Entry(usize),
     None,

@@ -1,5 +1,7 @@
 // The row query: a row's entries as the part of the lent table that holds them.
 // Document 01: "A row's entries are handed back as the part of the lent table holding them"
+#![tactic(auto)]
+
 ghost use Rattle.std.specs.Prelude.{◌≡◌, ◌+◌, ◌/◌, ◌≤◌, length, drop};
 ghost use Rattle.model.specs.Table.{entries_of};
 ghost use Rattle.model.specs.Lookup.{before_row, run_of_row, row_start, row_part};

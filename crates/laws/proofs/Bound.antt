@@ -1,5 +1,6 @@
 -- The bound on planning: no delay exceeds it, from it on nothing changes, and how large it can be.
 -- Assumes nothing.
+use Rattle.std.specs.Prelude.{if◌then◌else◌}
 use mathlib.Core.Path.{◌≡◌, sym, ap, ◌∙◌, subst}
 use mathlib.Core.Bool.{Bool, true, false}
 use mathlib.Core.List.{List, Memᴰ as In}
@@ -8,7 +9,7 @@ use native.Mathlib.Nat.{add-zero, add-suc, mul-le-mul}
 use native.Mathlib.Omega.{arith}
 use lib.ListN.{length, get_or}
 use Rattle.limits.specs.Limits.{ROUNDTICKS, DELAY}
-use Rattle.lists.specs.Lists.{if◌then◌else◌, sum}
+use Rattle.lists.specs.Lists.{sum}
 use Rattle.lists.proofs.Tests.{clash}
 use Rattle.lists.proofs.Members.{no_members}
 use Rattle.lists.proofs.Sums.{greatest_le, sum_most}

@@ -1,5 +1,6 @@
 -- What it says of a combination's starts and items that one of the refusals 14 to 19 finds nothing, both ways.
 -- Assumes nothing.
+use Rattle.std.specs.Prelude.{if◌then◌else◌}
 use mathlib.Core.Path.{◌≡◌, refl, sym}
 use mathlib.Core.Logic.{◌⊎◌, inl, inr, ◌↔◌}
 use mathlib.Core.Bool.{Bool, true, false, not, ◌&&◌}
@@ -9,7 +10,7 @@ use native.Mathlib.Omega.{arith}
 use lib.Dec.{eqb, leb, ltb}
 use lib.ListN.{length}
 use borrow.Author.Tests.{eqb-true, eq-eqb, lt-ltb, le-ltb, ltb-true, ltb-false, leb-true, le-leb, not-true, not-false}
-use Rattle.lists.specs.Lists.{if◌then◌else◌, any, keep, below}
+use Rattle.lists.specs.Lists.{any, keep, below}
 use Rattle.lists.proofs.Tests.{both, join, either, or_left, or_right, or_none, neither, not_both, and_none, is_not, no, swap, lower}
 use Rattle.lists.proofs.Members.{none_in, any_false, in_keep, keep_in, in_below, below_in}
 use Rattle.model.specs.Plan.{Lines, process, into, unit}

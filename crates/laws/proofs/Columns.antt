@@ -1,6 +1,7 @@
 -- Columns and what is heard: a column that is met stays met as more is heard, it is met as soon as its known bits are
 -- heard, and what is known at a tick is part of the combination.
 -- Assumes nothing.
+use Rattle.std.specs.Prelude.{if◌then◌else◌}
 use mathlib.Core.Path.{◌≡◌, refl, sym, ap, ◌∙◌, subst₂}
 use mathlib.Core.Logic.{◌⊎◌, inl, inr}
 use mathlib.Core.Bool.{Bool, true, false, ◌&&◌, ◌||◌, false≢true}
@@ -11,7 +12,7 @@ use native.Mathlib.Omega.{arith}
 use lib.Dec.{eqb, leb}
 use lib.ListN.{length, get_or, set}
 use borrow.Author.Tests.{eq-eqb, eqb-true, eqb-false, leb-true, le-leb}
-use Rattle.lists.specs.Lists.{if◌then◌else◌, upfrom}
+use Rattle.lists.specs.Lists.{upfrom}
 use Rattle.lists.proofs.Tests.{two, both, join, or_left, or_right}
 use Rattle.lists.proofs.Keep.{shift}
 use Rattle.model.specs.Plan.{Lines}

@@ -1,6 +1,7 @@
 -- The planner's entries ascend, and those that a combination meets are those that are made from its own log, one for
 -- each row of it.
 -- Assumes nothing.
+use Rattle.std.specs.Prelude.{if◌then◌else◌}
 use mathlib.Core.Path.{◌≡◌, refl, sym, ap, ◌∙◌, subst, subst₂}
 use mathlib.Core.Logic.{inr}
 use mathlib.Core.Bool.{Bool, true, false}
@@ -10,14 +11,14 @@ use native.Mathlib.Omega.{arith}
 use lib.Dec.{eqb}
 use lib.ListN.{length, get_or}
 use borrow.Author.Tests.{eqb-true, eq-eqb}
-use Rattle.lists.specs.Lists.{if◌then◌else◌, each, below}
+use Rattle.lists.specs.Lists.{each, below}
 use Rattle.lists.specs.Ordered.{same, order, Ascending}
 use Rattle.lists.proofs.Members.{map_in, in_map, each_in, in_each, keep_in, in_keep, in_below}
 use Rattle.lists.proofs.Order.{Joining, order_lt, order_same, ascending_each, put_all_ascends, put_all_in, in_put_all}
 use Rattle.model.specs.Plan.{Lines}
 use Rattle.model.specs.Activity.{Heard, heard, unheard, all_heard, combinations}
 use Rattle.model.specs.Bus.{rows, condition_row}
-use Rattle.model.specs.Log.{Placed, Log, of_row, known}
+use Rattle.model.specs.Log.{Placed, Log, of_row}
 use Rattle.model.specs.Planning.{State, bound, planned}
 use Rattle.model.specs.Refusals.{nothing, plan_refusal}
 use Rattle.model.specs.Table.{Entry, known_bits, value_bits, bits_met, column_met, entry_of, key, one_of_two, Planned, plans, made_entries, row_entries, result}

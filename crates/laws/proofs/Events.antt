@@ -1,18 +1,19 @@
 -- What a planner that goes from event to event needs of a tick: which slot begins, what its items are, and how many
 -- slots pass a ready item over.
 -- Assumes nothing.
+use Rattle.std.specs.Prelude.{if◌then◌else◌}
 use mathlib.Core.Path.{◌≡◌, refl, sym, ap, ◌∙◌, subst}
 use mathlib.Core.Bool.{Bool, true, false, not, ◌&&◌}
 use mathlib.Core.List.Memᴰ.{head as here}
 use mathlib.Core.List.Memᴰ.{not-nil as in_none}
 use mathlib.Core.List.Memᴰ.{tail as there}
 use mathlib.Core.List.{List, [], ◌∷◌, ◌++◌, map, Memᴰ as In}
-use Prim.Native.Nat.{ℕ, zero, suc, ◌+◌, ◌<◌, ◌≤◌}
+use Prim.Native.Nat.{ℕ, zero, suc, ◌<◌, ◌≤◌}
 use native.Mathlib.Omega.{arith}
 use lib.Dec.{eqb, ltb}
 use lib.ListN.{length, length-append, length-map}
 use borrow.Author.Tests.{ltb-true}
-use Rattle.lists.specs.Lists.{if◌then◌else◌, keep, each, repeated}
+use Rattle.lists.specs.Lists.{keep, each, repeated}
 use Rattle.lists.proofs.Tests.{clash}
 use Rattle.lists.proofs.Members.{no_members, in_length, map_in}
 use Rattle.lists.proofs.Keep.{keep_map, keep_same}

@@ -1,5 +1,6 @@
 -- Where everything placed is over, no process can start and no item waits, everything due is placed.
 -- Assumes nothing.
+use Rattle.std.specs.Prelude.{if◌then◌else◌}
 use mathlib.Core.Path.{◌≡◌, refl, sym, ap, ◌∙◌}
 use mathlib.Core.Logic.{◌⊎◌, inl, inr}
 use mathlib.Core.Bool.{Bool, true, false, not, ◌&&◌, ◌||◌}
@@ -8,10 +9,10 @@ use Prim.Native.Nat.{ℕ, ◌<◌}
 use native.Mathlib.Omega.{arith}
 use lib.ListN.{length, get_or}
 use borrow.Author.Tests.{not-true}
-use Rattle.lists.specs.Lists.{if◌then◌else◌, any, all}
+use Rattle.lists.specs.Lists.{any, all}
 use Rattle.lists.proofs.Tests.{two, both, join, or_left, or_right, is_not, is_true, not_both, strong}
 use Rattle.lists.proofs.Members.{any_in, in_any, all_in, in_all}
-use Rattle.model.specs.Plan.{Lines, When, always, on, processes, edge, decider, into, local, unit}
+use Rattle.model.specs.Plan.{Lines, When, always, on, edge, decider, into, local, unit}
 use Rattle.model.specs.Activity.{Heard, heard, unheard, is, may_be, may_meet, meets, all_heard, conjunction, may_run, active, carries}
 use Rattle.model.specs.Bus.{rows, edge_row, condition_row}
 use Rattle.model.specs.Log.{Placed, known, message_ready, delivered}

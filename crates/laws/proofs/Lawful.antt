@@ -1,6 +1,7 @@
 -- A lawful table: in every combination each due row is met exactly once and no other row is, at ticks up to
 -- 999,999,999.
 -- Assumes nothing.
+use Rattle.std.specs.Prelude.{if◌then◌else◌}
 use mathlib.Core.Path.{◌≡◌, refl, sym, ap, ◌∙◌, subst}
 use mathlib.Core.Bool.{Bool, true, false, ◌||◌}
 use mathlib.Core.List.Memᴰ.{head as here}
@@ -11,7 +12,7 @@ use native.Mathlib.Omega.{arith}
 use lib.Dec.{eqb}
 use lib.ListN.{length}
 use borrow.Author.Tests.{eqb-true, eq-eqb}
-use Rattle.lists.specs.Lists.{if◌then◌else◌, repeated}
+use Rattle.lists.specs.Lists.{repeated}
 use Rattle.lists.proofs.Tests.{is_false, same_test}
 use Rattle.lists.proofs.Members.{in_map, map_in, keep_in, in_keep, in_length, only}
 use Rattle.lists.proofs.Different.{different_none, different_cons, different_parts}

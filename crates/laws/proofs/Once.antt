@@ -1,5 +1,6 @@
 -- Planning places each row at most once, and starts at most one process of a unit at a tick.
 -- Assumes nothing.
+use Rattle.std.specs.Prelude.{if◌then◌else◌}
 use mathlib.Core.Path.{◌≡◌, sym, ap, ◌∙◌, subst}
 use mathlib.Core.Bool.{Bool, true, false}
 use mathlib.Core.List.Memᴰ.{head as here}
@@ -9,7 +10,7 @@ use Prim.Native.Nat.{ℕ, zero, suc, ◌+◌}
 use native.Mathlib.Omega.{arith}
 use lib.Dec.{leb}
 use lib.ListN.{length}
-use Rattle.lists.specs.Lists.{if◌then◌else◌, keep, first, repeated}
+use Rattle.lists.specs.Lists.{keep, first, repeated}
 use Rattle.lists.proofs.Tests.{clash}
 use Rattle.lists.proofs.Members.{UptoOne, first_one, one_same, map_in, in_map, keep_in}
 use Rattle.lists.proofs.Keep.{map_append, keep_map, map_each}
@@ -35,6 +36,7 @@ row_unique (z ∷ log) d x y (here u) (here v) q = u ∙ sym v
 row_unique (z ∷ log) d x y (here u) (there n) q = absurd (not_both_places z log d x y u n q)
 row_unique (z ∷ log) d x y (there m) (here v) q = absurd (not_both_places z log d y x v m (sym q))
 row_unique (z ∷ log) d x y (there m) (there n) q = row_unique log (different_parts z.row (rows_of log) d).1 x y m n q
+row_unique [] d x y x6 _ q = elim x6 [ ]
 
 module _ (p : Lines) (v : View) (t : ℕ) where
   start_one : (u : ℕ) → UptoOne (unit_starts p v t u)

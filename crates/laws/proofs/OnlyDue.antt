@@ -1,5 +1,6 @@
 -- Planning places only due rows.
 -- Assumes nothing.
+use Rattle.std.specs.Prelude.{if◌then◌else◌}
 use mathlib.Core.Path.{◌≡◌, sym, ap, ◌∙◌}
 use mathlib.Core.Logic.{◌⊎◌, inl, inr}
 use mathlib.Core.Bool.{Bool, true, false, not, ◌&&◌, ◌||◌}
@@ -8,7 +9,7 @@ use mathlib.Core.List.{List, Memᴰ as In}
 use Prim.Native.Nat.{ℕ, zero, suc, ◌<◌}
 use native.Mathlib.Omega.{arith}
 use lib.ListN.{length}
-use Rattle.lists.specs.Lists.{if◌then◌else◌, any, all}
+use Rattle.lists.specs.Lists.{any, all}
 use Rattle.lists.proofs.Tests.{both, join, is_not}
 use Rattle.lists.proofs.Members.{any_in, in_any, all_in, in_all}
 use Rattle.model.specs.Plan.{Lines, edge, decider, into, local}

@@ -1,6 +1,7 @@
 -- What is left to do before a tick, as a number that never grows: of each due row its whole cost while it is not
 -- placed, and then the ticks until it is over.
 -- Assumes nothing.
+use Rattle.std.specs.Prelude.{if◌then◌else◌}
 use mathlib.Core.Path.{◌≡◌, refl, sym, ap, ◌∙◌, subst}
 use mathlib.Core.Logic.{◌⊎◌, inl, inr}
 use mathlib.Core.Bool.{Bool, true, false}
@@ -11,7 +12,7 @@ use native.Mathlib.Omega.{arith}
 use lib.Dec.{eqb}
 use lib.ListN.{length, get_or}
 use borrow.Author.Tests.{eqb-true, eq-eqb, lt-ltb, le-ltb}
-use Rattle.lists.specs.Lists.{if◌then◌else◌, upfrom, below, sum, greatest}
+use Rattle.lists.specs.Lists.{upfrom, below, sum, greatest}
 use Rattle.lists.proofs.Tests.{two, clash}
 use Rattle.lists.proofs.Members.{in_keep, keep_in, in_below, below_in}
 use Rattle.lists.proofs.Sums.{greatest_le, greatest_in, sum_le, sum_drop, sum_nothing, sum_split, sum_const, sum_list}

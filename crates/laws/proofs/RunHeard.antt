@@ -1,6 +1,7 @@
 -- In a run by a table that keeps the rules every item is sent when it is ready: each counts, what is heard is what the
 -- table says is known, and what has delivered by the table has delivered in the run.
 -- Assumes nothing.
+use Rattle.std.specs.Prelude.{if◌then◌else◌}
 use mathlib.Core.Path.{◌≡◌, sym, ap, ◌∙◌, subst}
 use mathlib.Core.Logic.{◌⊎◌, inl, inr}
 use mathlib.Core.Bool.{Bool, true, false, not, ◌||◌}
@@ -9,7 +10,6 @@ use Prim.Native.Nat.{ℕ, ◌+◌, ◌≤◌, ◌<◌}
 use native.Mathlib.Omega.{arith}
 use lib.ListN.{length, get_or}
 use borrow.Author.Tests.{ltb-true, ltb-false}
-use Rattle.lists.specs.Lists.{if◌then◌else◌}
 use Rattle.lists.proofs.Tests.{two, both, join, is_not, or_left, or_right, same_test}
 use Rattle.lists.proofs.Members.{in_keep, keep_in}
 use Rattle.lists.proofs.Keep.{map_upfrom}

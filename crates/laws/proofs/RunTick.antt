@@ -1,6 +1,7 @@
 -- One tick of a run by a lawful table: where what is heard is what the table says, the log gains exactly the met
 -- entries of that tick.
 -- Assumes nothing.
+use Rattle.std.specs.Prelude.{if◌then◌else◌}
 use mathlib.Core.Path.{◌≡◌, refl, sym, ap, ◌∙◌}
 use mathlib.Core.Bool.{Bool, true, false, ◌&&◌}
 use mathlib.Core.List.{List, [], ◌∷◌, ◌++◌, map}
@@ -10,7 +11,7 @@ use native.Mathlib.Omega.{arith}
 use lib.Dec.{eqb, ltb}
 use lib.ListN.{length}
 use borrow.Author.Tests.{eq-eqb, ne_eqb, eqb-true, eqb-false, lt-ltb, le-ltb, ltb-true, ltb-false}
-use Rattle.lists.specs.Lists.{if◌then◌else◌, keep, each, below}
+use Rattle.lists.specs.Lists.{keep, each, below}
 use Rattle.lists.proofs.Tests.{same_test, at_most, and_false, and_true}
 use Rattle.lists.proofs.Members.{UptoOne, upto_one, one_or_none}
 use Rattle.lists.proofs.Keep.{map_map, keep_append, keep_map, keep_keep, keep_same, keep_false, keep_each, each_one, each_same}

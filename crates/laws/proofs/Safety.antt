@@ -1,5 +1,6 @@
 -- Planning is safe: the log before every tick keeps the rules.
 -- Assumes nothing.
+use Rattle.std.specs.Prelude.{if◌then◌else◌}
 use mathlib.Core.Path.{◌≡◌, refl, sym, ap, ◌∙◌, subst}
 use mathlib.Core.Logic.{◌⊎◌, inl, inr}
 use mathlib.Core.Bool.{Bool, true, false, not, ◌&&◌, ◌||◌, beq}
@@ -12,10 +13,10 @@ use native.Mathlib.Omega.{arith}
 use lib.Dec.{eqb, leb}
 use lib.ListN.{length, get_or}
 use borrow.Author.Tests.{eqb-true, eqb-false, not-true}
-use Rattle.lists.specs.Lists.{if◌then◌else◌, any, all}
+use Rattle.lists.specs.Lists.{any, all}
 use Rattle.lists.proofs.Tests.{two, clash, both, join, either, lower, strong}
 use Rattle.lists.proofs.Members.{any_in, in_any, all_in, in_all}
-use Rattle.model.specs.Plan.{Lines, Slot, When, always, on, process, processes, edge, into, unit}
+use Rattle.model.specs.Plan.{Lines, Slot, When, always, on, process, edge, into, unit}
 use Rattle.model.specs.Activity.{Heard, heard, unheard, may_be, may_meet, meets, all_heard, conjunction, may_carry, runs_next, may_run, active, carries}
 use Rattle.model.specs.Bus.{begins, edge_row, condition_row, sender, row_node, row_bytes, slot_of}
 use Rattle.model.specs.Log.{Placed, Log, placed, full_ticks, known, delivered}

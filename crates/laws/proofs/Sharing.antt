@@ -30,7 +30,6 @@ use Rattle.laws.proofs.Rows.{done_by, over_in, item_span, sender_in}
 use Rattle.laws.proofs.Rules.{Kept}
 use Rattle.laws.proofs.Steps.{log_at}
 use Rattle.laws.proofs.Once.{rows_once, unique}
-use Rattle.laws.proofs.OnlyDue.{only_due}
 use Rattle.laws.proofs.History.{grows, history, back, over_then}
 use Rattle.laws.proofs.NonAnticipation.{known_agree, non_anticipation}
 use Rattle.laws.proofs.Safety.{planning_keeps}
@@ -49,6 +48,7 @@ row_alone (y ∷ log) d x (there m) =
     let n = different_parts y.row (map (λ x. x.row) log) d in
     let e : eqb y.row x.row ≡ false = is_false _ (λ z. n.0 (subst (λ (r : ℕ). In r (map (λ x. x.row) log)) (sym (eqb-true y.row x.row z)) (in_map (λ x. x.row) m))) in
     rw e (row_alone log n.1 x m)
+row_alone [] d x x4 = elim x4 [ ]
 
 module _ (p : Lines) (passes : plan_refusal p ≡ nothing) where
   abbrev g : Good p

@@ -1,6 +1,7 @@
 -- The bus: how long slots and rounds can be, a node has one slot, `first_beginning` is the first beginning of it at or
 -- after a tick, and at most one slot begins at a tick.
 -- Assumes nothing.
+use Rattle.std.specs.Prelude.{if◌then◌else◌}
 use mathlib.Core.Path.{◌≡◌, refl, sym, ap, ◌∙◌, subst}
 use mathlib.Core.Logic.{◌⊎◌, inl, inr}
 use mathlib.Core.Bool.{Bool, true, false}
@@ -15,7 +16,7 @@ use lib.Dec.{eqb, leb, ltb}
 use lib.ListN.{length, get_or}
 use borrow.Author.Tests.{eq-eqb, eqb-true, leb-true, leb-false, ltb-true, ltb-false}
 use Rattle.limits.specs.Limits.{SLOTTICKS, ROUNDTICKS}
-use Rattle.lists.specs.Lists.{if◌then◌else◌, any, sum, repeated}
+use Rattle.lists.specs.Lists.{any, sum, repeated}
 use Rattle.lists.proofs.Tests.{two, clash, neither}
 use Rattle.lists.proofs.Members.{in_any, in_map, keep_in, in_keep, in_getD}
 use Rattle.lists.proofs.Sums.{sum_in, sum_most_in}

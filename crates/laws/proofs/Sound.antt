@@ -1,5 +1,6 @@
 -- A table is sound just where 2 to 9 find nothing in the plan, its words come in fives, and it is lawful.
 -- Assumes nothing.
+use Rattle.std.specs.Prelude.{if◌then◌else◌}
 use mathlib.Core.Path.{◌≡◌, refl, sym, ap, ◌∙◌, subst}
 use mathlib.Core.Logic.{◌⊎◌, inl, inr, ◌↔◌}
 use mathlib.Core.Bool.{Bool, true, false, not, beq}
@@ -11,7 +12,7 @@ use lib.Dec.{eqb}
 use lib.ListN.{length, get_or, set, length-set}
 use lib.Seq.{get_or-set_same}
 use borrow.Author.Tests.{eqb-true, eq-eqb, not-false}
-use Rattle.lists.specs.Lists.{if◌then◌else◌, repeated}
+use Rattle.lists.specs.Lists.{repeated}
 use Rattle.lists.proofs.Tests.{both, clash, no}
 use Rattle.lists.proofs.Members.{none_in, any_false, keep_in, in_keep, in_length, only, one_or_none}
 use Rattle.model.specs.Plan.{Lines, When, always, on, edge, local}

@@ -15,7 +15,7 @@ use lib.ListN.{length}
 use Rattle.lists.specs.Lists.{keep}
 use Rattle.lists.proofs.Tests.{clash, is_false}
 use Rattle.lists.proofs.Members.{no_members, each_in, keep_in}
-use Rattle.model.specs.Plan.{Lines, Slot, processes, unit}
+use Rattle.model.specs.Plan.{Lines, Slot, unit}
 use Rattle.model.specs.Bus.{beginning}
 use Rattle.model.specs.Log.{Placed, Log, placed, full_ticks}
 use Rattle.model.specs.Planning.{View, view, never, comes, ready, free, starts, pending, pack, takes, passes_over, sends, State, step, before}

@@ -205,6 +205,6 @@ CHANGE = 44
 abbrev pub CYCLE : ℕ
 CYCLE = LASTTICK + 2 * ROUNDTICKS + 1
 
--- "23" (document 02, point 5): the last refusal. Document 01 has 1 to 20, point 2 has 21 and 22.
+-- "21 [..] 22" (document 02, point 2): the last refusal. Document 01 has 1 to 20.
 abbrev pub LASTREFUSAL : ℕ
-LASTREFUSAL = 23
+LASTREFUSAL = 22

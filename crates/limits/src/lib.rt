@@ -1,6 +1,7 @@
 // The limits of documents 01 and 02 by name, and what follows from them, for code; specs/Limits.antt has the same names
 // for contracts, and those that only contracts need.
 // Document 01: "There are not 1 to 8 slots, 1 to 64 processes, at most 6 conditions, at most 128 edges."
+#![tactic(auto)]
 
 // "There are not 1 to 8 slots": the most slots that a plan has.
 pub const SLOTS: usize = 8;

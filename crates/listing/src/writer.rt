@@ -22,55 +22,37 @@ use plan::Plan;
 use text_lines::{Writer, filled, start};
 
 // What a listing answers: how many bytes it wrote, or the number of a refusal.
-#[derive(Drop)]
+#[derive(Clone, Copy)]
 pub enum Listed {
     Wrote(usize),
     Refused(u32),
 }
 
 // The line writer once it has the line of the delay and the passed lines.
-fn totals<'a, 'b>(w: Writer<'a>, delay: u32, passed: &'b [u32]) -> Writer<'a>
-    requires { Fits w.out.now w.at (totals_of delay passed.now) × (length passed.now ≤ NODES) }
-    ensures { result ≡ put_on w.entry (totals_of delay passed.now) }
+fn totals(w: &mut Writer<'_>, delay: u32, passed: &[u32])
+    requires { Fits w.old.out.now w.old.at (totals_of delay passed.now) × (length passed.now ≤ NODES) }
+    ensures { w.new ≡ put_on w.old (totals_of delay passed.now) }
 {
     let at = w.at;
-    let end = put_totals(&mut *w.out, at, delay, passed);
-    Writer {
-        out: w.out,
-        at: end,
-    }
+    w.at = put_totals(&mut *w.out, at, delay, passed);
 }
 
 // The line writer once it has the lines of a table.
-fn entries<'a, 'b>(
-    w: Writer<'a>,
-    processes: usize,
-    edges: usize,
-    conditions: usize,
-    table: &'b [u32],
-) -> Writer<'a>
-    requires { Fits w.out.now w.at (entries_text processes edges conditions table.now) }
-    ensures { result ≡ put_on w.entry (entries_text processes edges conditions table.now) }
+fn entries(w: &mut Writer<'_>, processes: usize, edges: usize, conditions: usize, table: &[u32])
+    requires { Fits w.old.out.now w.old.at (entries_text processes edges conditions table.now) }
+    ensures { w.new ≡ put_on w.old (entries_text processes edges conditions table.now) }
 {
     let at = w.at;
-    let end = put_entries(&mut *w.out, at, processes, edges, conditions, table);
-    Writer {
-        out: w.out,
-        at: end,
-    }
+    w.at = put_entries(&mut *w.out, at, processes, edges, conditions, table);
 }
 
 // The line writer once it has the lines of a frame list.
-fn frames<'a, 'b>(w: Writer<'a>, list: &'b [u32]) -> Writer<'a>
-    requires { Fits w.out.now w.at (frames_text list.now) }
-    ensures { result ≡ put_on w.entry (frames_text list.now) }
+fn frames(w: &mut Writer<'_>, list: &[u32])
+    requires { Fits w.old.out.now w.old.at (frames_text list.now) }
+    ensures { w.new ≡ put_on w.old (frames_text list.now) }
 {
     let at = w.at;
-    let end = put_frames(&mut *w.out, at, list);
-    Writer {
-        out: w.out,
-        at: end,
-    }
+    w.at = put_frames(&mut *w.out, at, list);
 }
 
 // Stores a listing that the lent bytes have room for, through the line writer.
@@ -89,16 +71,11 @@ fn put_listing<'a>(
     ensures { Put out.old out.new 0 result (listing_of processes edges conditions delay
         passed.now table.now list.now) }
 {
-    filled(frames(
-        entries(
-            totals(start(out, 0), delay, passed),
-            processes,
-            edges,
-            conditions,
-            table,
-        ),
-        list,
-    ))
+    let mut w = start(out, 0);
+    totals(&mut w, delay, passed);
+    entries(&mut w, processes, edges, conditions, table);
+    frames(&mut w, list);
+    filled(w)
 }
 
 // Stores the line of a refusal that the lent bytes have room for: how many bytes were stored.

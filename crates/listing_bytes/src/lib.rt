@@ -1,5 +1,7 @@
 // Words and numbers of a listing stored with no test of the room, once it is known that they fit.
 // Document 01: "Numbers, spaces and line ends are as in a plan."
+#![tactic(auto)]
+
 mod numbers;
 mod words;
 

@@ -1,6 +1,7 @@
 -- The lines that are counted and stored are those of document 01: of an entry, a frame and a refusal, and the whole
 -- listing of words.
 -- Assumes nothing.
+use Rattle.std.specs.Prelude.{if◌then◌else◌}
 use mathlib.Core.Path.{◌≡◌, refl, sym, ap, ◌∙◌}
 use mathlib.Core.Bool.{Bool, true, false, not}
 use mathlib.Core.Logic.{◌⊎◌, inl, inr}
@@ -11,7 +12,7 @@ use native.Mathlib.Omega.{arith}
 use borrow.Author.Tests.{ltb-true, ltb-false, eqb-true, eqb-false, lt-ltb, le-ltb, eq-eqb, ne_eqb}
 use lib.Dec.{eqb, ltb}
 use lib.ListN.{length, length-append, take}
-use Rattle.lists.specs.Lists.{if◌then◌else◌, each, below, upfrom}
+use Rattle.lists.specs.Lists.{each, below, upfrom}
 use Rattle.lists.proofs.Joined.{regroup, each_equal}
 use Rattle.lists.proofs.Tests.{two}
 use Rattle.model.specs.Plan.{Lines}

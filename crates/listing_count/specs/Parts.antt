@@ -1,8 +1,8 @@
 -- The lines of a listing as the labels and numbers that are counted and stored one after another, from the counts of a
 -- plan and the words of a table and a frame list. proofs/Lines.antt shows that they are the lines of document 01.
 -- Assumes nothing.
-use Rattle.std.specs.Prelude.{ℕ, zero, suc, ◌+◌, ◌-◌, ◌*◌, ◌/◌, ◌%◌, List, [], ◌∷◌, ◌++◌, eqb, ltb}
-use Rattle.lists.specs.Lists.{if◌then◌else◌, each}
+use Rattle.std.specs.Prelude.{ℕ, zero, suc, ◌+◌, ◌-◌, ◌*◌, ◌/◌, ◌%◌, List, [], ◌∷◌, ◌++◌, eqb, ltb, if◌then◌else◌}
+use Rattle.lists.specs.Lists.{each}
 use Rattle.model.specs.Text.{text, decimal}
 use Rattle.text_lines.specs.Label.{labelled}
 use Rattle.model.specs.Table.{Entry, Frame, entries_of, frames_of}

@@ -2,6 +2,8 @@
 // text leaves of it, or 0 where the text needs more. Nothing is counted where the lent bytes suffice for any listing of
 // as many words.
 // Document 01: "a written text more bytes, than lent"
+#![tactic(auto)]
+
 ghost use Rattle.std.specs.Prelude.{◌≡◌, ◌-◌, ◌≤◌, ltb, length};
 ghost use Rattle.limits.specs.Limits.{NODES};
 ghost use Rattle.model.specs.Text.{text, decimal};

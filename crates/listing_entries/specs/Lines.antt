@@ -1,7 +1,6 @@
 -- How the lines of a row of a table begin and end, and the line of an entry that begins and ends as given.
 -- Assumes nothing.
-use Rattle.std.specs.Prelude.{ℕ, ◌+◌, ◌-◌, List, [], ◌++◌, ltb, get_or}
-use Rattle.lists.specs.Lists.{if◌then◌else◌}
+use Rattle.std.specs.Prelude.{ℕ, ◌+◌, ◌-◌, List, [], ◌++◌, ltb, get_or, if◌then◌else◌}
 use Rattle.model.specs.Text.{text, decimal}
 use Rattle.text_lines.specs.Label.{labelled}
 use Rattle.listing_count.specs.Parts.{values_from}

@@ -1,7 +1,6 @@
 -- Runs of a table's entries with one row, one tick and one place, whose lines differ in the column's conditions alone.
 -- Assumes nothing.
-use Rattle.std.specs.Prelude.{ℕ, suc, ◌+◌, ◌*◌, ◌≤◌, ◌≡◌, Bool, ◌&&◌, List, [], ◌∷◌, ◌++◌, eqb, leb, length, drop, get_or}
-use Rattle.lists.specs.Lists.{if◌then◌else◌}
+use Rattle.std.specs.Prelude.{ℕ, suc, ◌+◌, ◌*◌, ◌≤◌, ◌≡◌, Bool, ◌&&◌, List, [], ◌∷◌, ◌++◌, eqb, leb, length, drop, get_or, if◌then◌else◌}
 use Rattle.model.specs.Table.{Entry, entries_of}
 use Rattle.listing_bytes.specs.Going.{Going}
 use Rattle.listing_count.specs.Parts.{values_from, entry_of, entries_text}

@@ -1,7 +1,6 @@
 -- How many sets of known conditions a plan has, where it has at most six conditions.
 -- Assumes nothing.
-use Rattle.std.specs.Prelude.{ℕ, ◌^◌, ltb}
-use Rattle.lists.specs.Lists.{if◌then◌else◌}
+use Rattle.std.specs.Prelude.{ℕ, ◌^◌, ltb, if◌then◌else◌}
 use Rattle.limits.specs.Limits.{CONDITIONS}
 
 -- each condition is known or not; none where the plan has more than six conditions

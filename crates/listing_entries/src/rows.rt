@@ -13,7 +13,7 @@ use crate::column::known_sets;
 use crate::lines::{put_end, put_first, put_line};
 
 // Where a run, or the runs of a row, end: in the lent bytes and in the words of the table.
-#[derive(Drop)]
+#[derive(Clone, Copy)]
 struct Run {
     end: usize,
     next: usize,

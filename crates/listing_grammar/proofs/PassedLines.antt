@@ -14,7 +14,7 @@ use Rattle.model.specs.Plan.{Lines}
 use Rattle.model.specs.Refusals.{nothing, plan_refusal}
 use Rattle.model.specs.Table.{Result}
 use Rattle.model.specs.Text.{text, decimal, field, short}
-use Rattle.model.specs.Listing.{passed_line, passed_lines, listing}
+use Rattle.model.specs.Listing.{passed_line, passed_lines}
 use Rattle.model.specs.ListingText.{States}
 use Rattle.laws.proofs.Good.{good}
 use Rattle.text_grammar.specs.Parse.{none, got, word_at, number_to, digit, closed_at}
@@ -24,7 +24,7 @@ use Rattle.text_grammar.proofs.Inverse.{word_reads, number_to_reads, closed_read
 use Rattle.text_grammar.proofs.Runs.{run_over}
 use Rattle.listing_count.specs.Parts.{frame_text, passed_of, passed_text}
 use Rattle.listing_count.proofs.Lines.{passed_same, passed_line_same}
-use Rattle.listing_grammar.specs.Parse.{numbered_at, start_at, item_at, entry_at, frame_at, count_at, listing_at, Read, no_reading, read, to_end, read_listing}
+use Rattle.listing_grammar.specs.Parse.{numbered_at, start_at, item_at, entry_at, frame_at, count_at, listing_at, no_reading, read, to_end, read_listing}
 use Rattle.listing_grammar.proofs.Forms.{entry_reads, frame_reads, count_reads}
 use Rattle.listing_grammar.proofs.Whole.{reading, frame_over, entry_over, delay_line, passed_reads, few, small, line, in_turn, numbers_apart, states_read}
 

@@ -1,6 +1,7 @@
 -- An accepted listing is a sound table; the listing of a sound table in the planner's order is read as that table and
 -- accepted; and so is the planner's own.
 -- Assumes nothing.
+use Rattle.std.specs.Prelude.{if◌then◌else◌}
 use mathlib.Core.Path.{◌≡◌, refl, ap, sym, subst, ◌∙◌}
 use mathlib.Core.Bool.{Bool, true, false, not}
 use mathlib.Core.List.Memᴰ.{head as here}
@@ -12,7 +13,7 @@ use native.Mathlib.Omega.{arith}
 use borrow.Author.Tests.{ltb-true, ltb-false, le-leb, eqb-true, not-true}
 use lib.Dec.{eqb, leb, ltb}
 use lib.ListN.{length}
-use Rattle.lists.specs.Lists.{if◌then◌else◌, all, each, keep, below}
+use Rattle.lists.specs.Lists.{all, each, keep, below}
 use Rattle.lists.specs.Ordered.{Order, less, same, more, order, put, put_all, Ascending}
 use Rattle.lists.proofs.Tests.{join}
 use Rattle.lists.proofs.Members.{in_all, map_in, keep_in, all_joined, all_each}

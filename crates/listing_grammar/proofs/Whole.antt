@@ -1,5 +1,6 @@
 -- The reader of listings reads exactly what a text states, so that a text states at most one listing.
 -- Assumes nothing.
+use Rattle.std.specs.Prelude.{if◌then◌else◌}
 use mathlib.Core.Path.{◌≡◌, refl, ap, sym, subst, ◌∙◌}
 use mathlib.Core.Bool.{Bool, true, false, not, ◌&&◌, ◌||◌}
 use mathlib.Core.Logic.{◌⊎◌, inl, inr}
@@ -10,7 +11,7 @@ use native.Mathlib.Omega.{arith}
 use borrow.Author.Tests.{ltb-true, ltb-false, lt-ltb, le-ltb, leb-true, le-leb, eqb-true, eq-eqb}
 use lib.Dec.{eqb, leb, ltb}
 use lib.ListN.{length}
-use Rattle.lists.specs.Lists.{if◌then◌else◌, all, each}
+use Rattle.lists.specs.Lists.{all, each}
 use Rattle.lists.proofs.Joined.{each_equal}
 use Rattle.lists.proofs.Tests.{two, both, join, or_right, or_left}
 use Rattle.lists.proofs.Members.{all_parts, all_joined}

@@ -1,8 +1,7 @@
 -- A listing text read from left to right, as functions on lists of bytes, by how many slots, processes, edges and
 -- conditions the plan has.
 -- Assumes nothing.
-use Rattle.std.specs.Prelude.{ℕ, zero, suc, ◌+◌, ◌*◌, Bool, true, false, ◌&&◌, List, [], ◌∷◌, eqb, leb, ltb, length}
-use Rattle.lists.specs.Lists.{if◌then◌else◌}
+use Rattle.std.specs.Prelude.{ℕ, zero, suc, ◌+◌, ◌*◌, Bool, ◌&&◌, List, [], ◌∷◌, eqb, leb, ltb, length, if◌then◌else◌}
 use Rattle.model.specs.Text.{text}
 use Rattle.model.specs.Table.{Entry, Frame, Result}
 use Rattle.model.specs.ListingText.{rows_in_order}

@@ -10,7 +10,7 @@ use limits::{PRINTEDENTRIES, PRINTEDWORDS};
 use listing_scanner::{Counts, Entry, EntryAt, entry_line};
 
 // How many entries were read and the position behind them, or that the listing is not of its form.
-#[derive(Drop)]
+#[derive(Clone, Copy)]
 pub enum EntriesAt {
     Got(usize, usize),
     No,

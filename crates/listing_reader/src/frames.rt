@@ -10,7 +10,7 @@ use limits::{PRINTEDFRAMES, PRINTEDFRAMEWORDS};
 use listing_scanner::{Frame, FrameAt, frame_line};
 
 // How many frames were read and the position behind them, or that there are more than 2,000.
-#[derive(Drop)]
+#[derive(Clone, Copy)]
 pub enum FramesAt {
     Got(usize, usize),
     No,

@@ -8,7 +8,7 @@ use listing_scanner::count_line;
 use text_scanner::NumberAt;
 
 // The position behind the passed lines, or that the listing is not of its form.
-#[derive(Drop)]
+#[derive(Clone, Copy)]
 pub enum PassedAt {
     Got(usize),
     No,

@@ -17,7 +17,7 @@ use text_scanner::{NumberAt, closed};
 
 // What a listing states: how many words its entries and its frames have, and its delay. These words, and the counts of
 // its passed lines, stand in what the caller lends.
-#[derive(Drop)]
+#[derive(Clone, Copy)]
 pub struct Stated {
     pub words: usize,
     pub framewords: usize,
@@ -25,7 +25,7 @@ pub struct Stated {
 }
 
 // What a listing text is read as: what it states, or a refusal.
-#[derive(Drop)]
+#[derive(Clone, Copy)]
 pub enum ListingRead {
     Stated(Stated),
     Refused(u32),

@@ -8,14 +8,14 @@ ghost use Rattle.listing_scanner.specs.Columns.{column, Stepped};
 use text_scanner::{NumberAt, WordAt, field, word};
 
 // Known bits, their values and the position behind the column, or that none stands there.
-#[derive(Drop)]
+#[derive(Clone, Copy)]
 pub enum ColumnAt {
     Got(u32, u32, usize),
     No,
 }
 
 // A column as far as it is read: known bits, their values, and the position.
-#[derive(Drop)]
+#[derive(Clone, Copy)]
 pub struct ColumnSofar {
     pub known: u32,
     pub values: u32,

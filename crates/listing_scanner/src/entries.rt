@@ -9,7 +9,7 @@ use crate::columns::{ColumnAt, column};
 use text_scanner::{NumberAt, WordAt, closed, field, number_to, word};
 
 // How many slots, processes, edges and conditions the plan of a listing has.
-#[derive(Drop)]
+#[derive(Clone, Copy)]
 pub struct Counts {
     pub slots: u32,
     pub processes: u32,
@@ -18,7 +18,7 @@ pub struct Counts {
 }
 
 // An entry as a line says it: row, known bits, their values, tick, place.
-#[derive(Drop)]
+#[derive(Clone, Copy)]
 pub struct Entry {
     pub row: u32,
     pub known: u32,
@@ -28,7 +28,7 @@ pub struct Entry {
 }
 
 // An entry and the position behind its line, or that none stands there.
-#[derive(Drop)]
+#[derive(Clone, Copy)]
 pub enum EntryAt {
     Got(Entry, usize),
     No,

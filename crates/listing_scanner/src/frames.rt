@@ -8,7 +8,7 @@ use crate::entries::numbered;
 use text_scanner::{NumberAt, closed, field};
 
 // A frame as a line says it: tick, node, last used byte counted from 1.
-#[derive(Drop)]
+#[derive(Clone, Copy)]
 pub struct Frame {
     pub tick: u32,
     pub node: u32,
@@ -16,7 +16,7 @@ pub struct Frame {
 }
 
 // A frame and the position behind its line, or that none stands there.
-#[derive(Drop)]
+#[derive(Clone, Copy)]
 pub enum FrameAt {
     Got(Frame, usize),
     No,

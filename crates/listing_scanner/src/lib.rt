@@ -1,6 +1,8 @@
 // What stands at a position of a listing text: the passed lines, columns, the lines of entries and the lines of frames,
 // each equal to the grammar's function there.
 // Document 02, point 2: "a listing as printed in document 01"
+#![tactic(auto)]
+
 mod columns;
 mod entries;
 mod frames;

@@ -1,5 +1,6 @@
 -- How many elements of a list a test keeps, how many stand in a part of it, and how often each number stands in it.
 -- Assumes nothing.
+use Rattle.std.specs.Prelude.{if◌then◌else◌}
 use mathlib.Core.Path.{◌≡◌, refl, sym, ap, ◌∙◌}
 use mathlib.Core.Bool.{Bool, true, false, not}
 use mathlib.Core.List.Memᴰ.{head as here}
@@ -11,7 +12,7 @@ use native.Mathlib.Omega.{arith}
 use lib.Dec.{eqb}
 use lib.ListN.{length, take}
 use borrow.Author.Tests.{eq-eqb, ne_eqb, not-true}
-use Rattle.lists.specs.Lists.{if◌then◌else◌, any, keep, upfrom, sum}
+use Rattle.lists.specs.Lists.{any, keep, upfrom, sum}
 use Rattle.lists.proofs.Tests.{clash, neither}
 use Rattle.lists.proofs.Members.{keep_in, no_members}
 use Rattle.lists.proofs.Sums.{sum_nought, sum_one_more}

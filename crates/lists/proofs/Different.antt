@@ -1,5 +1,6 @@
 -- Lists of different numbers: `repeated` is false.
 -- Assumes nothing.
+use Rattle.std.specs.Prelude.{if◌then◌else◌}
 use mathlib.Core.Path.{◌≡◌, refl, sym, ap, ◌∙◌, subst}
 use mathlib.Core.Logic.{◌⊎◌, inl, inr}
 use mathlib.Core.Bool.{Bool, false, not, true}
@@ -13,7 +14,7 @@ use native.Mathlib.Omega.{arith}
 use lib.Dec.{eqb}
 use lib.ListN.{length}
 use borrow.Author.Tests.{eqb-true, eq-eqb, not-true, ne_eqb}
-use Rattle.lists.specs.Lists.{any, keep, if◌then◌else◌, repeated, upfrom, each}
+use Rattle.lists.specs.Lists.{any, keep, repeated, upfrom, each}
 use Rattle.lists.proofs.Tests.{neither, clash, two}
 use Rattle.lists.proofs.Keep.{keep_all}
 use Rattle.lists.proofs.Members.{none_in, keep_in, any_false, any_in, in_any, upfrom_in, map_in, in_map, each_in}

@@ -1,6 +1,7 @@
 -- Numbers found twice by marks: an array that holds 1 at each number seen so far, and 0 elsewhere. And a list has a
 -- number twice if the number at some place stands earlier.
 -- Assumes nothing.
+use Rattle.std.specs.Prelude.{if◌then◌else◌}
 use mathlib.Core.Path.{◌≡◌, refl, sym, ap, ◌∙◌}
 use mathlib.Core.Logic.{◌⊎◌, inl, inr}
 use mathlib.Core.Bool.{Bool, true, false, ◌||◌}
@@ -12,7 +13,7 @@ use lib.Dec.{eqb}
 use lib.ListN.{length, get_or, set, replicate, length-set, length-replicate, get_or-replicate}
 use lib.Seq.{get_or-set_same, get_or-set_other}
 use borrow.Author.Tests.{eqb-true, eqb-false}
-use Rattle.lists.specs.Lists.{if◌then◌else◌, any, below, repeated, earlier}
+use Rattle.lists.specs.Lists.{any, below, repeated, earlier}
 use Rattle.lists.proofs.Tests.{two, or_right, or_cross, or_false}
 use Rattle.lists.proofs.Members.{any_append, any_of_map}
 use Rattle.lists.proofs.Keep.{map_append, below_last}

@@ -1,5 +1,6 @@
 -- What `any`, `all`, `keep`, `map`, `each` and `first` say of the members of a list.
 -- Assumes nothing.
+use Rattle.std.specs.Prelude.{if◌then◌else◌}
 use mathlib.Core.Path.{◌≡◌, refl, sym, ap, ◌∙◌, subst}
 use mathlib.Core.Logic.{◌⊎◌, inl, inr}
 use mathlib.Core.Bool.{Bool, ◌||◌, ◌&&◌, true, false, false≢true, and_assoc}
@@ -16,7 +17,7 @@ use native.Mathlib.Omega.{arith}
 use lib.Dec.{eqb}
 use lib.ListN.{length, get_or}
 use borrow.Author.Tests.{eqb-true, eq-eqb}
-use Rattle.lists.specs.Lists.{any, all, if◌then◌else◌, keep, each, upfrom, below, first}
+use Rattle.lists.specs.Lists.{any, all, keep, each, upfrom, below, first}
 use Rattle.lists.proofs.Tests.{same_test, or_right, or_assoc, or_cross, clash, both, join, either, or_left, is_false, two, or_map}
 
 module _ {A : Type 0} where
@@ -31,6 +32,7 @@ module _ {A : Type 0} where
   pub in_any : (f : A → Bool) {x : A} {xs : List A} → In x xs → f x ≡ true → any f xs ≡ true
   in_any f {x} {xs = y ∷ ys} (here q) e = or_left (f y) (any f ys) (sym (ap f q) ∙ e)
   in_any f {x} {xs = y ∷ ys} (there m) e = or_right (f y) (any f ys) (in_any f m e)
+  in_any f {x = x} {xs = []} x6 e = elim x6 [ ]
 
   pub none_in : (f : A → Bool) {x : A} {xs : List A} → any f xs ≡ false → In x xs → f x ≡ false
   none_in f {x} {xs} h m = is_false (f x) (λ e. clash (in_any f m e) h)
@@ -38,6 +40,7 @@ module _ {A : Type 0} where
   pub all_in : (f : A → Bool) {x : A} {xs : List A} → all f xs ≡ true → In x xs → f x ≡ true
   all_in f {x} {xs = y ∷ ys} h (here q) = ap f q ∙ (both (f y) (all f ys) h).0
   all_in f {x} {xs = y ∷ ys} h (there m) = all_in f (both (f y) (all f ys) h).1 m
+  all_in f {x = x} {xs = []} h x6 = elim x6 [ ]
 
   pub in_all : (f : A → Bool) (xs : List A) → ((x : A) → In x xs → f x ≡ true) → all f xs ≡ true
   in_all f [] h = refl
@@ -50,6 +53,7 @@ module _ {A : Type 0} where
       at : (b : Bool) → In x (keep f ys) → In x (if b then (y ∷ keep f ys) else keep f ys)
       at true n = there n
       at false n = n
+  in_keep f {x = x} {xs = []} x6 e = elim x6 [ ]
 
   pub keep_in : (f : A → Bool) {x : A} (xs : List A) → In x (keep f xs) → In x xs × (f x ≡ true)
   keep_in f [] m = absurd (in_none m)
@@ -81,6 +85,7 @@ module _ {A B : Type 0} where
   pub in_each : (f : A → List B) {x : A} {y : B} {xs : List A} → In x xs → In y (f x) → In y (each f xs)
   in_each f {x} {y} {xs = z ∷ zs} (here q) n = in_left (each f zs) (subst (λ (w : A). In y (f w)) q n)
   in_each f {x} {y} {xs = z ∷ zs} (there m) n = in_right (f z) (in_each f m n)
+  in_each f {x = x} {y = y} {xs = []} x6 n = elim x6 [ ]
 
   pub each_in : (f : A → List B) {y : B} (xs : List A) → In y (each f xs) → (x : A) × In x xs × In y (f x)
   each_in f [] m = absurd (in_none m)

@@ -1,13 +1,9 @@
 -- Tests, lists and numbers: what the definitions of document 01 are written with.
 -- Assumes nothing.
-use Rattle.std.specs.Prelude.{ℕ, zero, suc, ◌+◌, max, Bool, true, false, ◌&&◌, ◌||◌, List, [], ◌∷◌, ◌++◌, eqb, set, replicate}
+use Rattle.std.specs.Prelude.{cond, ℕ, zero, suc, ◌+◌, max, Bool, true, false, ◌&&◌, ◌||◌, List, [], ◌∷◌, ◌++◌, eqb, set, replicate}
 
--- Both branches are computed: a definition with two recursive calls says `elim` instead.
-infixr 15 if◌then◌else◌
-abbrev pub if◌then◌else◌ {ℓ} : {A : Type ℓ} → Bool → A → A → A
-if◌then◌else◌ true a b = a
-if◌then◌else◌ false a b = b
-
+-- Of `cond b x y`, which is `if b then x else y`, both branches are computed: a definition with two recursive calls says
+-- `elim` instead.
 module _ {ℓ} {A : Type ℓ} where
   abbrev pub any : (A → Bool) → List A → Bool
   any f [] = false
@@ -20,12 +16,12 @@ module _ {ℓ} {A : Type ℓ} where
   -- the elements that pass a test
   abbrev pub keep : (A → Bool) → List A → List A
   keep f [] = []
-  keep f (x ∷ xs) = if f x then (x ∷ keep f xs) else keep f xs
+  keep f (x ∷ xs) = cond (f x) (x ∷ keep f xs) (keep f xs)
 
   -- the first element that passes a test: a list of one, or of none
   abbrev pub first : (A → Bool) → List A → List A
   first f [] = []
-  first f (x ∷ xs) = if f x then (x ∷ []) else first f xs
+  first f (x ∷ xs) = cond (f x) (x ∷ []) (first f xs)
 
   abbrev pub null : List A → Bool
   null [] = true

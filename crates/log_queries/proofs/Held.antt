@@ -1,5 +1,6 @@
 -- Arrays by row that hold a log: the empty one, one more row placed, and what is over and placed by them.
 -- Assumes nothing.
+use Rattle.std.specs.Prelude.{if◌then◌else◌}
 use mathlib.Core.Path.{◌≡◌, refl, sym, ap, ◌∙◌, subst}
 use mathlib.Core.Logic.{◌⊎◌, inl, inr}
 use mathlib.Core.Bool.{Bool, true, false, not, ◌&&◌, ◌||◌}
@@ -10,7 +11,7 @@ use lib.Dec.{eqb, leb}
 use lib.ListN.{length, get_or, set, replicate, length-set, length-replicate}
 use lib.Seq.{get_or-set_same, get_or-set_other}
 use borrow.Author.Tests.{eq-eqb, eqb-true, ne_eqb, leb-true, leb-false, le-leb, lt-leb}
-use Rattle.lists.specs.Lists.{if◌then◌else◌, any, null}
+use Rattle.lists.specs.Lists.{any, null}
 use Rattle.lists.proofs.Tests.{two, clash, or_false, and_false, join}
 use Rattle.lists.proofs.Fill.{zeros_at}
 use Rattle.model.specs.Plan.{Lines}

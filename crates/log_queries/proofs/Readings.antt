@@ -1,6 +1,7 @@
 -- Where arrays by row hold a log, the conditions known by a clock and the last end of a process that are read off them
 -- are those of the log.
 -- Assumes nothing.
+use Rattle.std.specs.Prelude.{if◌then◌else◌}
 use mathlib.Core.Path.{◌≡◌, sym, ap, ◌∙◌}
 use mathlib.Core.Logic.{◌⊎◌, inl, inr}
 use mathlib.Core.Bool.{Bool, true, false}
@@ -10,7 +11,7 @@ use native.Mathlib.Omega.{arith}
 use lib.Dec.{eqb, ltb}
 use lib.ListN.{length, get_or}
 use borrow.Author.Tests.{eqb-true, eqb-false, ltb-true, lt-ltb}
-use Rattle.lists.specs.Lists.{if◌then◌else◌, below, greatest}
+use Rattle.lists.specs.Lists.{below, greatest}
 use Rattle.lists.proofs.Tests.{two}
 use Rattle.lists.proofs.Members.{in_below, below_in}
 use Rattle.lists.proofs.Sums.{greatest_in, greatest_le}

@@ -1,6 +1,7 @@
 -- Where the arrays hold a plan and a combination, what they say of an edge and of a process is what the model says,
 -- with the rows over that the array by row has; and the view at a tick is the one that this array gives.
 -- Assumes nothing.
+use Rattle.std.specs.Prelude.{if◌then◌else◌}
 use mathlib.Core.Path.{◌≡◌, refl, sym, ap, ◌∙◌}
 use mathlib.Core.Logic.{◌⊎◌, inl, inr}
 use mathlib.Core.Bool.{Bool, true, false, not, ◌&&◌, ◌||◌, beq}
@@ -10,7 +11,7 @@ use native.Mathlib.Omega.{arith}
 use lib.Dec.{eqb, ltb}
 use lib.ListN.{length, get_or, get_or-eq_default}
 use borrow.Author.Tests.{ltb-true, ltb-false}
-use Rattle.lists.specs.Lists.{if◌then◌else◌, any, all}
+use Rattle.lists.specs.Lists.{any, all}
 use Rattle.lists.proofs.Tests.{two, and_false}
 use Rattle.model.specs.Plan.{Lines, Edge, When, always, on, edge}
 use Rattle.model.specs.Activity.{Heard, heard, unheard, is, may_be, meets, may_meet, may_run}

@@ -1,5 +1,6 @@
 -- Where the arrays hold a plan and a combination, the array of what may run says of each process what the model says.
 -- Assumes nothing.
+use Rattle.std.specs.Prelude.{if◌then◌else◌}
 use mathlib.Core.Path.{◌≡◌, refl, sym, ap, ◌∙◌}
 use mathlib.Core.Logic.{◌⊎◌, inl, inr}
 use mathlib.Core.Bool.{Bool, true, false, not, ◌&&◌, ◌||◌}
@@ -10,7 +11,7 @@ use lib.Dec.{eqb}
 use lib.ListN.{length, get_or, set, length-set, length-replicate, length-append, get_or-append, get_or-eq_default}
 use lib.Seq.{get_or-set_same, get_or-set_other}
 use borrow.Author.Tests.{eqb-true, eqb-false}
-use Rattle.lists.specs.Lists.{if◌then◌else◌, any, all}
+use Rattle.lists.specs.Lists.{any, all}
 use Rattle.lists.proofs.Fill.{zeros_at}
 use Rattle.lists.proofs.Tests.{two, lower}
 use Rattle.lists.proofs.Keep.{getD_last}

@@ -1,7 +1,6 @@
 -- Which processes may run, kept from one clock to the next.
 -- Assumes nothing.
-use Rattle.std.specs.Prelude.{ℕ, List, eqb}
-use Rattle.lists.specs.Lists.{if◌then◌else◌}
+use Rattle.std.specs.Prelude.{ℕ, List, eqb, if◌then◌else◌}
 use Rattle.log_queries.specs.Reading.{may_run_by}
 
 -- What may run is worked out again where a value becomes known.

@@ -1,8 +1,7 @@
 -- What a log of one combination in memory says, by a plan index and the log's rows: the definitions of Reading.antt at
 -- their arrays.
 -- Assumes nothing.
-use Rattle.std.specs.Prelude.{ℕ, Bool, List, eqb}
-use Rattle.lists.specs.Lists.{if◌then◌else◌}
+use Rattle.std.specs.Prelude.{ℕ, Bool, List, eqb, if◌then◌else◌}
 use Rattle.plan_index.specs.declared.PlanIndex.{PlanIndex}
 use Rattle.log_rows.specs.Rows.{Rows}
 use Rattle.log_queries.specs.Reading.{part, message_by, delivered_by, never_by, carries_by, settled_by, ready_by}

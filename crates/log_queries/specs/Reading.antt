@@ -4,9 +4,9 @@
 -- the `when`, `remote` not 0 where the edge is between nodes. By process: `asany` has 1 where it counts as `any`, `run`
 -- 1 where it may run; the edges into process i are those of `into` from place first[i] to first[i + 1].
 -- Assumes nothing.
-use Rattle.std.specs.Prelude.{ℕ, zero, suc, ◌+◌, ◌-◌, ◌<◌, Bool, true, false, not, ◌&&◌, ◌||◌, List, map, eqb, leb, get_or, set, replicate}
+use Rattle.std.specs.Prelude.{ℕ, zero, suc, ◌+◌, ◌-◌, ◌<◌, Bool, true, false, not, ◌&&◌, ◌||◌, List, map, eqb, leb, get_or, set, replicate, if◌then◌else◌}
 use Rattle.limits.specs.Limits.{ROWS}
-use Rattle.lists.specs.Lists.{if◌then◌else◌, any, all, upfrom, below, greatest}
+use Rattle.lists.specs.Lists.{any, all, upfrom, below, greatest}
 use Rattle.bitset.specs.Masks.{mask_from}
 
 -- a row with x in `comes` is over by the clock

@@ -1,6 +1,8 @@
 // What can be read off a log in memory (arrays by row): what is ready, delivered, known and over, and which processes
 // may still run; for planner and checker.
 // Document 01: "An `all` process is ready when every edge into it has delivered."
+#![tactic(auto)]
+
 mod readiness;
 mod row_ends;
 mod runnable;

@@ -8,7 +8,7 @@ use lib.ListN.{length, set, replicate, length-replicate}
 use lib.Seq.{sets, length-sets}
 use Rattle.lists.proofs.Cutting.{within, behind, before, zeros_cut, cut_long}
 use Rattle.lists.proofs.Stores.{sets_append, sets_whole}
-use Rattle.log_rows.specs.Rows.{Rows, rows_of, no_rows, with_run, with_unmet, with_place, put_run, put_unmet, put_comes, put_place}
+use Rattle.log_rows.specs.Rows.{rows_of, no_rows, with_run, with_unmet, with_place, put_run, put_unmet, put_comes, put_place}
 
 pub stored_run : (s : List ℕ) (i v : ℕ) → i < 64 → rows_of (set s (0 + i) v) ≡ put_run i v (rows_of s)
 unfolding rows_of

@@ -1,6 +1,8 @@
 // A log of one combination in memory, by row, in one array of numbers: each field has its place there, and functions
 // that read and store it. specs/Rows.antt has the same fields as a record.
 // Document 01: "Rows: processes, then edges, then conditions."
+#![tactic(auto)]
+
 ghost use Rattle.std.specs.Prelude.{◌≡◌, ◌<◌, get_or};
 ghost use Rattle.limits.specs.Limits.{EDGES, PROCESSES, ROWS};
 ghost use Rattle.log_rows.specs.Rows.{rows_of, no_rows, put_run, put_unmet, put_comes, put_place};

@@ -1,8 +1,8 @@
 -- Document 01, "Who runs": combinations, activity, and what may still run given the values heard so far.
 -- Assumes nothing.
-use Rattle.std.specs.Prelude.{ℕ, zero, suc, Bool, true, false, not, ◌&&◌, List, [], ◌∷◌, ◌++◌, map, length, get_or}
+use Rattle.std.specs.Prelude.{ℕ, zero, suc, Bool, true, false, not, ◌&&◌, List, [], ◌∷◌, ◌++◌, map, length, get_or, if◌then◌else◌}
 use Rattle.std.specs.Bool.{beq}
-use Rattle.lists.specs.Lists.{if◌then◌else◌, any, all, null, each}
+use Rattle.lists.specs.Lists.{any, all, null, each}
 use Rattle.model.specs.Plan.{Lines, Waits, waits_all, waits_any, When, always, on, process, edge, into}
 
 -- "A combination gives every condition true or false": a list of Bool, condition 0 first. All of them, ascending,

@@ -1,8 +1,8 @@
 -- Document 01, "The bus": slots, rounds, and the rows of what is placed on units and on the bus. Document 02, points 1
 -- and 4: slots with a head, and the slot search.
 -- Assumes nothing.
-use Rattle.std.specs.Prelude.{ℕ, ◌+◌, ◌-◌, ◌*◌, ◌%◌, Bool, List, [], ◌∷◌, map, eqb, leb, ltb, length}
-use Rattle.lists.specs.Lists.{if◌then◌else◌, sum, keep}
+use Rattle.std.specs.Prelude.{ℕ, ◌+◌, ◌-◌, ◌*◌, ◌%◌, Bool, List, [], ◌∷◌, map, eqb, leb, ltb, length, if◌then◌else◌}
+use Rattle.lists.specs.Lists.{sum, keep}
 use Rattle.model.specs.Plan.{Lines, Slot, process, edge, decider}
 
 -- Document 02, point 1: "a slot lasts (bytes + head) × byte ticks"

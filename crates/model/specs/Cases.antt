@@ -18,8 +18,8 @@ use Rattle.model.specs.ListingText.{States, Listed, listed, not_listed, listed_w
 use Rattle.model.specs.Firmware.{words_of, found_number}
 use Rattle.model.specs.Run.{run_before}
 use Rattle.model.specs.Demand.{starts_of}
-use Rattle.model.specs.Seasons.{Day, Window, windows_of, Told, tells, refuses, season_answer}
-use Rattle.model.specs.SeasonText.{Season, season_text, Asks, season_prints}
+use Rattle.model.specs.Seasons.{Day, windows_of, Told, tells, refuses, season_answer}
+use Rattle.model.specs.SeasonText.{Season, season_text, season_prints}
 use Rattle.model.specs.Cycle.{cycle_answer, change_answer, Changed, changes, no_change, tick_line, change_prints}
 use Rattle.model.specs.Open.{computing}
 

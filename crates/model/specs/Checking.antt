@@ -1,7 +1,7 @@
 -- Document 01, "Refused, in checking order": sentences 12 to 20, and sound tables.
 -- Assumes nothing.
-use Rattle.std.specs.Prelude.{ℕ, ◌+◌, ◌%◌, ◌^◌, ◌≡◌, Bool, not, ◌&&◌, ◌||◌, List, map, eqb, leb, ltb, length}
-use Rattle.lists.specs.Lists.{if◌then◌else◌, any, keep, below, greatest}
+use Rattle.std.specs.Prelude.{ℕ, ◌+◌, ◌%◌, ◌^◌, ◌≡◌, Bool, not, ◌&&◌, ◌||◌, List, map, eqb, leb, ltb, length, if◌then◌else◌}
+use Rattle.lists.specs.Lists.{any, keep, below, greatest}
 use Rattle.model.specs.Plan.{Lines, process, decider, into, local, unit}
 use Rattle.model.specs.Activity.{all_heard, combinations, active, carries}
 use Rattle.model.specs.Bus.{begins, slot_of, rows, is_process, is_edge, row_edge, row_condition, sender, row_node, row_bytes}

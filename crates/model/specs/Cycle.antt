@@ -1,9 +1,9 @@
 -- Document 02, point 5, "Winter and summer plans": the cycle of an accepted table, when a change takes effect, and the runs
 -- that begin one after another.
 -- Assumes nothing.
-use Rattle.std.specs.Prelude.{ℕ, ◌+◌, ◌-◌, ◌*◌, ◌%◌, ◌≤◌, ◌<◌, max, ◌≡◌, eqb, ltb, length, get_or}
-use mathlib.Core.List.{List, [], ◌∷◌, ◌++◌, map, Memᴰ as In}
-use Rattle.lists.specs.Lists.{if◌then◌else◌, greatest}
+use Rattle.std.specs.Prelude.{ℕ, ◌+◌, ◌-◌, ◌*◌, ◌%◌, ◌≤◌, ◌<◌, max, ◌≡◌, eqb, ltb, length, get_or, if◌then◌else◌}
+use mathlib.Core.List.{List, ◌++◌, map, Memᴰ as In}
+use Rattle.lists.specs.Lists.{greatest}
 use Rattle.model.specs.Plan.{Lines}
 use Rattle.model.specs.Bus.{round, is_process, transit}
 use Rattle.model.specs.Log.{Placed, Log}

@@ -1,7 +1,7 @@
 -- Document 01, "Table and frame list": what the planning program prints, with the passed lines of document 02, point 3.
 -- Assumes nothing.
-use Rattle.std.specs.Prelude.{ℕ, suc, ◌/◌, ◌%◌, ◌^◌, Bool, ◌||◌, List, [], ◌∷◌, ◌++◌, eqb, ltb, length, take}
-use Rattle.lists.specs.Lists.{if◌then◌else◌, each}
+use Rattle.std.specs.Prelude.{ℕ, suc, ◌/◌, ◌%◌, ◌^◌, Bool, ◌||◌, List, [], ◌∷◌, ◌++◌, eqb, ltb, length, take, if◌then◌else◌}
+use Rattle.lists.specs.Lists.{each}
 use Rattle.model.specs.Plan.{Lines, conditions}
 use Rattle.model.specs.Bus.{rows, is_process, is_edge, row_edge, row_condition}
 use Rattle.model.specs.Refusals.{Refusal, nothing, sentence, or_else, plan_refusal}

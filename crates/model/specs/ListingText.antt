@@ -1,8 +1,8 @@
 -- Document 02, point 2, "Check a printed table": what a listing text means, refusals 21 and 22, and what the program
 -- that checks a printed table prints. Point 3 has the passed lines.
 -- Assumes nothing.
-use Rattle.std.specs.Prelude.{ℕ, ◌^◌, ◌≤◌, ◌≡◌, Bool, true, not, ◌&&◌, ◌||◌, List, [], ◌∷◌, ◌++◌, eqb, leb, ltb, length}
-use Rattle.lists.specs.Lists.{if◌then◌else◌, all, each, same_numbers}
+use Rattle.std.specs.Prelude.{ℕ, ◌^◌, ◌≤◌, ◌≡◌, Bool, true, not, ◌&&◌, ◌||◌, List, [], ◌∷◌, ◌++◌, eqb, leb, ltb, length, if◌then◌else◌}
+use Rattle.lists.specs.Lists.{all, each, same_numbers}
 use Rattle.lists.specs.Front.{front}
 use Rattle.model.specs.Plan.{Lines}
 use Rattle.model.specs.Bus.{rows, is_process}

@@ -2,8 +2,8 @@
 -- the entries of a table that a combination meets are one, and a run makes one. What has ended, arrived, become known
 -- or been delivered by a tick is read off a log here, once for all three. `times` has the running time of each process.
 -- Assumes nothing.
-use Rattle.std.specs.Prelude.{ℕ, ◌+◌, Bool, false, ◌&&◌, List, map, eqb, leb, get_or}
-use Rattle.lists.specs.Lists.{if◌then◌else◌, keep, any, greatest}
+use Rattle.std.specs.Prelude.{ℕ, ◌+◌, Bool, false, ◌&&◌, List, map, eqb, leb, get_or, if◌then◌else◌}
+use Rattle.lists.specs.Lists.{keep, any, greatest}
 use Rattle.model.specs.Plan.{Lines, edge, decider, conditions, local}
 use Rattle.model.specs.Activity.{Heard, unheard, heard, meets}
 use Rattle.model.specs.Bus.{is_process, edge_row, condition_row, transit}

@@ -1,7 +1,6 @@
 -- Document 01, "Table and frame list": the row query and the kernel lookup.
 -- Assumes nothing.
-use Rattle.std.specs.Prelude.{ℕ, suc, ◌*◌, Bool, true, false, ◌&&◌, List, [], ◌∷◌, eqb, ltb, length, take, drop}
-use Rattle.lists.specs.Lists.{if◌then◌else◌}
+use Rattle.std.specs.Prelude.{ℕ, suc, ◌*◌, Bool, true, false, ◌&&◌, List, [], ◌∷◌, eqb, ltb, length, take, drop, if◌then◌else◌}
 use Rattle.model.specs.Plan.{Lines}
 use Rattle.model.specs.Bus.{rows, row_node}
 use Rattle.model.specs.Refusals.{Refusal, nothing, refused, plan_refusal}

@@ -1,7 +1,7 @@
 -- Document 01, "Planning": one combination, tick by tick.
 -- Assumes nothing.
-use Rattle.std.specs.Prelude.{ℕ, zero, suc, ◌+◌, ◌-◌, ◌*◌, Bool, true, false, not, ◌&&◌, ◌||◌, List, [], ◌∷◌, ◌++◌, map, eqb, leb, ltb, length, get_or}
-use Rattle.lists.specs.Lists.{if◌then◌else◌, any, all, keep, first, each, sum, greatest}
+use Rattle.std.specs.Prelude.{ℕ, zero, suc, ◌+◌, ◌-◌, ◌*◌, Bool, true, false, not, ◌&&◌, ◌||◌, List, [], ◌∷◌, ◌++◌, map, eqb, leb, ltb, length, get_or, if◌then◌else◌}
+use Rattle.lists.specs.Lists.{any, all, keep, first, each, sum, greatest}
 use Rattle.lists.specs.Ordered.{sort}
 use Rattle.model.specs.Plan.{Lines, Slot, Pick, by_urgency, by_number, process, edge, decider, processes, edges, conditions, into, out_of, local, unit, units}
 use Rattle.model.specs.Activity.{Heard, may_meet, conjunction, may_run}

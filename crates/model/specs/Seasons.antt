@@ -1,7 +1,7 @@
 -- Document 02, point 5, "Winter and summer plans": windows, and which plan applies to a month, a day and a minute.
 -- Assumes nothing.
-use Rattle.std.specs.Prelude.{ℕ, ◌+◌, ◌-◌, ◌*◌, Bool, ◌&&◌, ◌||◌, List, [], ◌∷◌, map, eqb, leb, ltb, length, get_or}
-use Rattle.lists.specs.Lists.{if◌then◌else◌, any, first}
+use Rattle.std.specs.Prelude.{ℕ, ◌+◌, ◌-◌, ◌*◌, Bool, ◌&&◌, ◌||◌, List, [], ◌∷◌, map, eqb, leb, ltb, length, get_or, if◌then◌else◌}
+use Rattle.lists.specs.Lists.{any, first}
 use Rattle.model.specs.Refusals.{Refusal, nothing, refused, sentence, outside}
 
 -- "first and last day as month and day"

@@ -1,8 +1,8 @@
 -- Document 01, "Table and frame list": entries, columns, frames, words, and the planner's answer with refusals 10 and
 -- 11.
 -- Assumes nothing.
-use Rattle.std.specs.Prelude.{ℕ, zero, suc, ◌+◌, ◌*◌, ◌/◌, ◌%◌, max, Bool, true, not, ◌&&◌, ◌||◌, List, [], ◌∷◌, map, eqb, leb, ltb, length}
-use Rattle.lists.specs.Lists.{if◌then◌else◌, keep, each, below, sum, greatest}
+use Rattle.std.specs.Prelude.{ℕ, zero, suc, ◌+◌, ◌*◌, ◌/◌, ◌%◌, max, Bool, true, not, ◌&&◌, ◌||◌, List, [], ◌∷◌, map, eqb, leb, ltb, length, if◌then◌else◌}
+use Rattle.lists.specs.Lists.{keep, each, below, sum, greatest}
 use Rattle.lists.specs.Ordered.{put_all}
 use Rattle.lists.specs.Front.{front}
 use Rattle.model.specs.Plan.{Lines, Slot}

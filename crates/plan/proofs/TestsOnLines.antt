@@ -1,5 +1,6 @@
 -- For a plan whose counts pass refusal 2, each test over the arrays is the test of document 01 on the lines.
 -- Assumes nothing.
+use Rattle.std.specs.Prelude.{if◌then◌else◌}
 use mathlib.Core.Path.{◌≡◌, refl, sym, ap, ◌∙◌, subst}
 use mathlib.Core.Logic.{◌⊎◌, inl, inr}
 use mathlib.Core.Bool.{Bool, true, false, not, ◌&&◌, ◌||◌}
@@ -11,7 +12,7 @@ use native.Mathlib.Omega.{arith}
 use lib.Dec.{eqb, leb, ltb}
 use lib.ListN.{length, get_or}
 use borrow.Author.Tests.{ltb-false, leb-false, eqb-true, eq-eqb}
-use Rattle.lists.specs.Lists.{if◌then◌else◌, any, below, repeated, earlier}
+use Rattle.lists.specs.Lists.{any, below, repeated, earlier}
 use Rattle.lists.proofs.Tests.{two, both, join, neither, same_test}
 use Rattle.lists.proofs.Members.{any_same, any_of_map, any_or, map_in, below_in}
 use Rattle.lists.proofs.Marks.{repeated_earlier}

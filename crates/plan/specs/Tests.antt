@@ -1,8 +1,8 @@
 -- Refusals 2 to 9 over the arrays of a plan: the tests that the code makes.
 -- Assumes nothing.
-use Rattle.std.specs.Prelude.{ℕ, ◌+◌, ◌*◌, Bool, false, not, ◌&&◌, ◌||◌, List, [], ◌∷◌, eqb, leb, ltb, get_or}
+use Rattle.std.specs.Prelude.{ℕ, ◌+◌, ◌*◌, Bool, false, not, ◌&&◌, ◌||◌, List, [], ◌∷◌, eqb, leb, ltb, get_or, if◌then◌else◌}
 use Rattle.limits.specs.Limits.{TICKS}
-use Rattle.lists.specs.Lists.{if◌then◌else◌, any, below, earlier}
+use Rattle.lists.specs.Lists.{any, below, earlier}
 use Rattle.model.specs.Plan.{PlanLine}
 use Rattle.model.specs.Refusals.{outside, wrong_plan}
 

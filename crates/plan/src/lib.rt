@@ -2,6 +2,8 @@
 // 2 to 9 are made of: on one number or one line (fields), and over arrays of numbers (any_tests). `lines` in
 // specs/Memory.antt says which lines of document 01 a plan stands for, specs/Tests.antt what the tests say.
 // Document 01: "Two plans in memory are the same if the lines they stand for are."
+#![tactic(auto)]
+
 mod any_tests;
 mod fields;
 mod tables;
@@ -15,21 +17,21 @@ use limits::{CONDITIONS, EDGES, PROCESSES, SLOTS};
 pub use tables::{EdgeTable, ProcessTable, SlotTable, edge_table, process_table, slot_table};
 
 // "`pick` is `urgency` or `number`"
-#[derive(Drop)]
+#[derive(Clone, Copy)]
 pub enum Pick {
     Urgency,
     Number,
 }
 
 // "`waits` is `all`, or `any` for a conjunction process"
-#[derive(Drop)]
+#[derive(Clone, Copy)]
 pub enum Waits {
     All,
     Any,
 }
 
 // The `when` of an edge: always, or a condition that must be true or false.
-#[derive(Drop)]
+#[derive(Clone, Copy)]
 pub enum When {
     Always,
     True(u32),
@@ -37,27 +39,27 @@ pub enum When {
 }
 
 // The plan line: `byte` is "ticks per byte on the bus", and `head` the bytes that a frame has beside its data.
-#[derive(Drop)]
+#[derive(Clone, Copy)]
 pub struct PlanLine {
     pub byte: u32,
     pub head: u32,
     pub pick: Pick,
 }
 
-#[derive(Drop)]
+#[derive(Clone, Copy)]
 pub struct Slot {
     pub node: u32,
     pub bytes: u32,
 }
 
-#[derive(Drop)]
+#[derive(Clone, Copy)]
 pub struct Process {
     pub node: u32,
     pub ticks: u32,
     pub waits: Waits,
 }
 
-#[derive(Drop)]
+#[derive(Clone, Copy)]
 pub struct Edge {
     pub from: u32,
     pub to: u32,
@@ -67,7 +69,7 @@ pub struct Edge {
 
 // A plan: `slots` is how many of the array `slot` are the plan's, and so on. A count above its array stands for as many
 // lines, of which refusal 2 then finds too many.
-#[derive(Drop)]
+#[derive(Clone, Copy)]
 pub struct Plan {
     pub line: PlanLine,
     pub slots: usize,

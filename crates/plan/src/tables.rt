@@ -8,14 +8,14 @@ use arrays::lesser_usize;
 use limits::{EDGES, PROCESSES, SLOTS};
 
 // by slot, in bus order
-#[derive(Drop)]
+#[derive(Clone, Copy)]
 pub struct SlotTable {
     pub node: [u32; SLOTS],
     pub bytes: [u32; SLOTS],
 }
 
 // by process; `any` is 1 where the process waits for any
-#[derive(Drop)]
+#[derive(Clone, Copy)]
 pub struct ProcessTable {
     pub node: [u32; PROCESSES],
     pub ticks: [u32; PROCESSES],
@@ -24,7 +24,7 @@ pub struct ProcessTable {
 
 // by edge; `kind` is 0 for always, 1 for a condition that must be true, 2 for one that must be false, and `condition`
 // names it
-#[derive(Drop)]
+#[derive(Clone, Copy)]
 pub struct EdgeTable {
     pub from: [u32; EDGES],
     pub to: [u32; EDGES],

@@ -1,6 +1,8 @@
 // A plan laid out for planning and checking in one array of numbers: each field has its place there, and one function
 // that reads it. specs/Index.antt has the same fields as a record.
 // Document 01: "Rows: processes, then edges, then conditions."
+#![tactic(auto)]
+
 mod counts;
 mod fields;
 mod layout;
@@ -23,7 +25,7 @@ pub use layout::{
 use limits::{CONDITIONS, EDGES, NODES, PROCESSES, ROWS, STARTS};
 
 // The fields of a plan index, each an array of its own: what contracts speak of, and what is laid out in one array.
-#[derive(Drop)]
+#[derive(Clone, Copy)]
 pub struct PlanIndex {
     // how many processes, edges, conditions and slots the plan has
     pub processes: usize,

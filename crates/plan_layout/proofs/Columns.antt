@@ -10,7 +10,7 @@ use native.Mathlib.Omega.{arith}
 use lib.Dec.{ltb}
 use lib.ListN.{length, get_or, get_or-eq_default}
 use borrow.Author.Tests.{ltb-true, ltb-false}
-use Rattle.lists.specs.Lists.{any, fill}
+use Rattle.lists.specs.Lists.{fill}
 use Rattle.lists.proofs.Tests.{two}
 use Rattle.lists.proofs.Fill.{fill_at, fill_all}
 use Rattle.model.specs.Plan.{Process, Edge, Waits, waits_all, waits_any, When, always, on, process, edge, decider}

@@ -1,12 +1,13 @@
 -- The plan index of the tables, orders and timetable of a plan in which refusals 2 to 9 find nothing is that of its
 -- lines, array by array; and what that says of the plan.
 -- Assumes nothing.
+use Rattle.std.specs.Prelude.{if◌then◌else◌}
 use mathlib.Core.Path.{◌≡◌, refl, sym, ap, ◌∙◌, subst}
 use mathlib.Core.List.{List}
 use Prim.Native.Nat.{ℕ, suc, ◌+◌}
 use native.Mathlib.Omega.{arith}
 use lib.ListN.{length}
-use Rattle.lists.specs.Lists.{if◌then◌else◌, fill}
+use Rattle.lists.specs.Lists.{fill}
 use Rattle.lists.proofs.Fill.{fill_same, fill_whole, fill_length}
 use Rattle.model.specs.Plan.{Process, Edge, waits_all, always, process, edge, decider, local, unit}
 use Rattle.model.specs.Activity.{conjunction}

@@ -1,5 +1,6 @@
 -- The plan index of a plan in which refusals 2 to 9 find nothing says of it what the model says.
 -- Assumes nothing.
+use Rattle.std.specs.Prelude.{if◌then◌else◌}
 use mathlib.Core.Path.{◌≡◌, refl, sym, ap, ◌∙◌, subst}
 use mathlib.Core.Logic.{◌⊎◌, inl, inr}
 use mathlib.Core.Bool.{Bool, true, false, not, ◌&&◌}
@@ -10,14 +11,13 @@ use lib.Dec.{eqb, ltb}
 use lib.ListN.{length, get_or}
 use borrow.Author.Tests.{ltb-true, ltb-false, eq-eqb}
 use Rattle.limits.specs.Limits.{SLOTTICKS}
-use Rattle.lists.specs.Lists.{if◌then◌else◌, any, null, fill}
+use Rattle.lists.specs.Lists.{null, fill}
 use Rattle.lists.proofs.Tests.{two}
 use Rattle.lists.proofs.Fill.{fill_at, fill_each, fill_all}
 use Rattle.model.specs.Plan.{Slot, Waits, waits_all, waits_any, process, edge, decider, into, local, unit}
 use Rattle.model.specs.Activity.{combinations, says_any, conjunction}
 use Rattle.model.specs.Bus.{slot_of, rows, sender, row_node, row_bytes, transit}
 use Rattle.model.specs.Log.{full_ticks, span}
-use Rattle.model.specs.Planning.{dispatch_order, queue}
 use Rattle.model.specs.Refusals.{nothing, plan_refusal}
 use Rattle.laws.proofs.Slots.{slot_ticks_one, slot_ticks_most, slot_own}
 use Rattle.laws.proofs.Rows.{sender_in, full_tick, process_span, item_span}

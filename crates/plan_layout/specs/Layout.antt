@@ -1,9 +1,9 @@
 -- The plan index of a plan's tables, orders and timetable, and how large the numbers in the tables are; and the plan
 -- index of a plan's lines.
 -- Assumes nothing.
-use Rattle.std.specs.Prelude.{List, ℕ, suc, ◌+◌, ◌≤◌, ◌<◌, eqb, length}
+use Rattle.std.specs.Prelude.{List, ℕ, suc, ◌+◌, ◌≤◌, ◌<◌, eqb, length, if◌then◌else◌}
 use Rattle.limits.specs.Limits.{NODES, PROCESSES, CONDITIONS, EDGES, ROWS}
-use Rattle.lists.specs.Lists.{if◌then◌else◌, fill}
+use Rattle.lists.specs.Lists.{fill}
 use Rattle.model.specs.Plan.{Lines, process, edge, decider, local, unit}
 use Rattle.model.specs.Activity.{conjunction}
 use Rattle.model.specs.Bus.{rows, row_node, row_bytes}

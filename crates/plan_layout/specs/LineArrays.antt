@@ -1,7 +1,7 @@
 -- Arrays by process and by edge, worked out of a plan's tables and orders number by number.
 -- Assumes nothing.
-use Rattle.std.specs.Prelude.{List, ℕ, suc, ◌+◌, eqb, ltb}
-use Rattle.lists.specs.Lists.{if◌then◌else◌, fill}
+use Rattle.std.specs.Prelude.{List, ℕ, suc, ◌+◌, eqb, ltb, if◌then◌else◌}
+use Rattle.lists.specs.Lists.{fill}
 use Rattle.plan.specs.Tests.{at}
 
 -- one more than the node that receives, 0 where it is the node that sends

@@ -1,8 +1,8 @@
 -- Arrays by row, worked out of a plan's tables and timetable number by number.
 -- Assumes nothing.
-use Rattle.std.specs.Prelude.{List, ℕ, ◌-◌, ltb}
+use Rattle.std.specs.Prelude.{List, ℕ, ◌-◌, ltb, if◌then◌else◌}
 use Rattle.limits.specs.Limits.{ROWS}
-use Rattle.lists.specs.Lists.{if◌then◌else◌, fill}
+use Rattle.lists.specs.Lists.{fill}
 use Rattle.plan.specs.Tests.{at}
 
 -- the process that a row belongs to, what the row lasts and its bytes; `conditionrow` is the row of condition 0

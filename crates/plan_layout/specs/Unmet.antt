@@ -1,8 +1,8 @@
 -- Which `when`s a combination leaves unmet, by edge. The kind of a `when` is 0 where it is always met, 1 where it waits
 -- for true, 2 for false.
 -- Assumes nothing.
-use Rattle.std.specs.Prelude.{List, ℕ, ◌/◌, ◌%◌, ◌^◌, eqb}
-use Rattle.lists.specs.Lists.{if◌then◌else◌, fill}
+use Rattle.std.specs.Prelude.{List, ℕ, ◌/◌, ◌%◌, ◌^◌, eqb, if◌then◌else◌}
+use Rattle.lists.specs.Lists.{fill}
 use Rattle.plan.specs.Tests.{at}
 use Rattle.plan_index.specs.declared.PlanIndex.{PlanIndex}
 

@@ -1,6 +1,7 @@
 -- The arrays of a plan in which refusals 2 to 9 find nothing, and what is worked out of them, are what the model says
 -- of its lines; and what the fixed orders say of a plan, part by part.
 -- Assumes nothing.
+use Rattle.std.specs.Prelude.{if◌then◌else◌}
 use mathlib.Core.Path.{◌≡◌, refl, sym, ap, ◌∙◌}
 use mathlib.Core.Bool.{Bool, true, false, not, ◌&&◌}
 use mathlib.Core.List.{List, ◌∷◌, ◌++◌, map, Memᴰ as In}
@@ -9,7 +10,7 @@ use native.Mathlib.Omega.{arith}
 use lib.Dec.{eqb}
 use lib.ListN.{length, get_or, replicate}
 use borrow.Author.Tests.{ne_eqb}
-use Rattle.lists.specs.Lists.{if◌then◌else◌, keep, below, greatest, fill}
+use Rattle.lists.specs.Lists.{keep, below, greatest, fill}
 use Rattle.lists.specs.Ordered.{sort}
 use Rattle.lists.proofs.Tests.{and_false, and_true}
 use Rattle.lists.proofs.Members.{below_in, keep_in}

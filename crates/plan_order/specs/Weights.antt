@@ -1,7 +1,6 @@
 -- What the pick goes by, and the key of a message.
 -- Assumes nothing.
-use Rattle.std.specs.Prelude.{ℕ, List, eqb, replicate}
-use Rattle.lists.specs.Lists.{if◌then◌else◌}
+use Rattle.std.specs.Prelude.{ℕ, List, eqb, replicate, if◌then◌else◌}
 use Rattle.plan.specs.declared.Pick.{Pick}
 use Rattle.plan.specs.declared.Pick.TheVariants.{Urgency, Number}
 

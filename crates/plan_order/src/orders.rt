@@ -19,7 +19,7 @@ use plan::{Pick, Plan, edge_table, process_table};
 // The edges into process i stand in `into` from place `intofirst[i]` up to place `intofirst[i + 1]`, the processes of a
 // node in dispatch order in `dispatch` from `dispatchfirst`, and the messages of a node in the order of the queue in
 // `queue` from `queuefirst`. Behind the last of each stand zeros.
-#[derive(Drop)]
+#[derive(Clone, Copy)]
 pub struct Orders {
     pub intofirst: [u32; STARTS],
     pub into: [u32; EDGES],

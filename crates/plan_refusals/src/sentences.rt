@@ -16,7 +16,7 @@ use plan::{
 };
 
 // What a plan meets: nothing, or the number of the first refusal that applies.
-#[derive(Drop)]
+#[derive(Clone, Copy)]
 pub enum Refusal {
     Nothing,
     Refused(u32),

@@ -1,6 +1,8 @@
 // The planner: a plan in memory in, a start table, a frame list and the pass-over counts of the nodes out, as words
 // that the caller lends.
 // Document 01: "every lent buffer keeps its contents; an accepted call leaves words beyond its output unchanged"
+#![tactic(auto)]
+
 ghost use Rattle.std.specs.Prelude.{◌≡◌, length};
 ghost use Rattle.model.specs.Table.{plan_answer, table_after, frames_after, counts_after};
 ghost use Rattle.plan.specs.Memory.{lines};

@@ -1,6 +1,7 @@
 -- The clock at which a process next ends stays right from event to event, and where no process ends and no broadcast
 -- arrives no node is looked at.
 -- Assumes nothing.
+use Rattle.std.specs.Prelude.{if◌then◌else◌}
 use Prim.Native.Nat.{ℕ, min, ◌≤◌, ◌<◌}
 use mathlib.Core.Path.{◌≡◌, refl, sym, ap, ◌∙◌}
 use mathlib.Core.Logic.{◌⊎◌, inl, inr}
@@ -10,7 +11,6 @@ use native.Mathlib.Omega.{arith}
 use lib.Dec.{eqb}
 use lib.ListN.{get_or}
 use borrow.Author.Tests.{eqb-true, eqb-false, eq-eqb}
-use Rattle.lists.specs.Lists.{if◌then◌else◌}
 use Rattle.planner_dispatch.specs.ChangedNodes.{no_end, Soonest}
 use Rattle.planner_sends.specs.Clocks.{come_by, ends_now, changes_at}
 use Rattle.planner_combination.specs.Ending.{Ending}

@@ -1,6 +1,7 @@
 -- What one event does: where the arrays hold planning before a tick, the next event has them hold planning before its
 -- own tick.
 -- Assumes nothing.
+use Rattle.std.specs.Prelude.{if◌then◌else◌}
 use Prim.Native.Nat.{ℕ, suc, ◌+◌, ◌-◌, ◌*◌, ◌≤◌, ◌<◌}
 use mathlib.Core.Path.{◌≡◌, refl, sym, ap, ◌∙◌, subst}
 use mathlib.Core.Logic.{◌⊎◌, inl, inr}
@@ -11,7 +12,7 @@ use lib.Dec.{eqb, ltb}
 use lib.ListN.{length, get_or, set, length-set}
 use lib.Seq.{get_or-set_same, get_or-set_other}
 use borrow.Author.Tests.{eqb-true, eqb-false, eq-eqb, ne_eqb, ltb-true, ltb-false, le-leb, lt-leb, not-false}
-use Rattle.lists.specs.Lists.{if◌then◌else◌, keep, each, null}
+use Rattle.lists.specs.Lists.{keep, each, null}
 use Rattle.lists.proofs.Tests.{two, clash}
 use Rattle.lists.proofs.Keep.{map_upfrom}
 use Rattle.model.specs.Plan.{Lines, Slot, unit}

@@ -1,6 +1,7 @@
 -- What the loops of the code rest on: the slot of a node that is nearer, what a slot leaves of the bus, and what one
 -- event leaves of all.
 -- Assumes nothing.
+use Rattle.std.specs.Prelude.{if◌then◌else◌}
 use Prim.Native.Nat.{ℕ, zero, suc, ◌+◌, ◌-◌, ◌≤◌, ◌<◌}
 use mathlib.Core.Path.{◌≡◌, refl, ◌∙◌}
 use mathlib.Core.Bool.{Bool, true, false}
@@ -9,7 +10,6 @@ use native.Mathlib.Omega.{arith}
 use lib.Dec.{eqb}
 use lib.ListN.{length, get_or, set, length-set}
 use borrow.Author.Tests.{le-leb, lt-leb}
-use Rattle.lists.specs.Lists.{if◌then◌else◌}
 use Rattle.bus_timetable.proofs.Beginnings.{beginning_from}
 use Rattle.planner_sends.specs.Packing.{Load}
 use Rattle.plan_index.specs.declared.PlanIndex.{PlanIndex}

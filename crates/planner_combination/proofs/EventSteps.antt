@@ -1,13 +1,12 @@
 -- The steps of an event one after another, by what each leaves of the rows and of what is kept by node: what the next
 -- one may be called with, and where they lead.
 -- Assumes nothing.
+use Rattle.std.specs.Prelude.{if◌then◌else◌}
 use Prim.Native.Nat.{ℕ, ◌-◌, ◌≤◌, ◌<◌}
-use mathlib.Core.Path.{◌≡◌, refl, sym, ap, ◌∙◌, subst}
+use mathlib.Core.Path.{◌≡◌, sym, ◌∙◌, subst}
 use mathlib.Core.List.{List}
-use native.Mathlib.Omega.{arith}
 use lib.Dec.{eqb}
 use lib.ListN.{length, get_or, set}
-use Rattle.lists.specs.Lists.{if◌then◌else◌}
 use Rattle.model.specs.Listing.{bit}
 use Rattle.bus_timetable.specs.Bus.{round_beginning_at}
 use Rattle.plan_index.specs.declared.PlanIndex.{PlanIndex}
@@ -25,7 +24,7 @@ use Rattle.planner_packing.specs.declared.slot.Ends.{Ends}
 use Rattle.planner_packing.specs.Sending.{Sendable, Sends}
 use Rattle.planner_combination.specs.declared.event.Clocks.{Clocks}
 use Rattle.planner_combination.specs.Events.{Moment, hears, begins_with, begun_by, waiting, messages, notes, Fits}
-use Rattle.planner_combination.specs.Planning.{moment_of, noted_in, begun, Begun, AtEvent, EventDone}
+use Rattle.planner_combination.specs.Planning.{moment_of, noted_in, Begun, AtEvent, EventDone}
 use Rattle.planner_combination.proofs.Keeping.{not_looked, nothing_new, node_low}
 use Rattle.planner_combination.proofs.WholeEvent.{roomy_now, waits_now, remote_now, event-whole}
 

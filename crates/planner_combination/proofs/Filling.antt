@@ -1,6 +1,7 @@
 -- What a slot changes: nothing where its node has no item pending, and elsewhere only rows of items of its node that
 -- were not placed.
 -- Assumes nothing.
+use Rattle.std.specs.Prelude.{if◌then◌else◌}
 use Prim.Native.Nat.{ℕ, zero, suc, ◌+◌, ◌≤◌, ◌<◌}
 use mathlib.Core.Path.{◌≡◌, refl, sym, ap, ◌∙◌, subst}
 use mathlib.Core.Logic.{◌⊎◌, inl, inr}
@@ -13,7 +14,7 @@ use lib.Dec.{eqb, leb, ltb}
 use lib.ListN.{length, get_or, set}
 use lib.Seq.{get_or-set_other}
 use borrow.Author.Tests.{eqb-true, eqb-false, ne_eqb, ltb-true, le-ltb, lt-ltb}
-use Rattle.lists.specs.Lists.{if◌then◌else◌, any, keep, below}
+use Rattle.lists.specs.Lists.{any, keep, below}
 use Rattle.lists.proofs.Counts.{keep_nothing}
 use Rattle.lists.proofs.Tests.{two, neither}
 use Rattle.lists.proofs.Members.{keep_in, below_in}
@@ -136,7 +137,7 @@ module _ (processes conditionrow conditions : ℕ) (decider node queuefirst queu
   fill_nothing s h =
       let k = neither (any (waits_by processes from knownby unmet s.comes u) edges) (any (broadcasts_by conditionrow decider node s.comes n u) (below conditions)) h in
       let t = no_broadcasts s.comes s.place k.1 in
-      rw t (rw (sends_none processes from knownby unmet bytes (get_or rooms n 0) u end edges (load 0 false s.comes s.place) k.0) (rw (le-ltb 0 0 (omega arith)) refl))
+      rw t (rw (sends_none processes from knownby unmet bytes (get_or rooms n 0) u end edges (load 0 false s.comes s.place) k.0) refl)
 
   -- what becomes of a row
   pub data Filled (s s' : Bus) (r : ℕ) : Type 0 where

@@ -6,7 +6,7 @@ use native.Mathlib.Nat.{zero-mod}
 use native.Mathlib.Omega.{arith}
 use mathlib.Core.Path.{◌≡◌, refl, sym, ap, ◌∙◌, subst}
 use mathlib.Core.List.{List}
-use lib.ListN.{length, get_or, replicate}
+use lib.ListN.{replicate}
 use Rattle.bus_timetable.specs.Bus.{Carried}
 use Rattle.bus_timetable.proofs.Rounds.{carried_from}
 use Rattle.plan_index.specs.declared.PlanIndex.{PlanIndex}
@@ -15,7 +15,7 @@ use Rattle.planner_nodes.specs.Nodes.{Nodes, with_nextsend, with_lastarrival}
 use Rattle.planner_sends.specs.Clocks.{no_event}
 use Rattle.planner_combination.specs.declared.event.Clocks.{Clocks}
 use Rattle.planner_combination.specs.Events.{Moment, last_event, from_clock, next, Fits}
-use Rattle.planner_combination.specs.Kept.{Kept, Queued, Begins}
+use Rattle.planner_combination.specs.Kept.{Kept, Queued}
 use Rattle.planner_combination.specs.Ending.{Ending}
 use Rattle.planner_combination.specs.Planning.{moment_of, AtEvent, EventDone, Plannable}
 use Rattle.planner_combination.proofs.Keeping.{kept_start, queued_start}

@@ -1,11 +1,11 @@
 -- The planning of one combination from event to event, in the words of the arrays: what an event does, when the next
 -- one is, and where a run of events leads. The clock is the tick plus 1.
 -- Assumes nothing.
-use Rattle.std.specs.Prelude.{ℕ, zero, suc, ◌+◌, ◌-◌, ◌*◌, ◌≤◌, ◌<◌, ◌≡◌, ◌⊎◌, Bool, true, false, eqb, leb, get_or, replicate}
+use Rattle.std.specs.Prelude.{ℕ, zero, suc, ◌+◌, ◌-◌, ◌*◌, ◌≤◌, ◌<◌, ◌≡◌, ◌⊎◌, Bool, true, false, eqb, leb, get_or, replicate, if◌then◌else◌}
 use mathlib.Core.List.{List, Memᴰ as In}
 use Rattle.std.proofs.lemmas.List.Edits.{sets}
 use Rattle.limits.specs.Limits.{TICKS, SLOTTICKS, ROUNDTICKS, LASTCLOCK}
-use Rattle.lists.specs.Lists.{if◌then◌else◌, below, repeated}
+use Rattle.lists.specs.Lists.{below, repeated}
 use Rattle.log_queries.specs.Reading.{part, edges_into, Within}
 use Rattle.bitset.specs.Masks.{mask_from}
 use Rattle.bus_timetable.specs.Bus.{beginning_at, reciprocal_of}

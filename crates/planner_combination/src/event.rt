@@ -1,10 +1,9 @@
 // One event of the planning of a combination: a process ends, a slot that carries something ends, or a slot begins
 // whose node has a ready item. specs/Events.antt says what an event does and when the next one is, specs/Kept.antt what
 // is kept from event to event so that nothing is worked out twice.
-ghost use Rattle.std.specs.Prelude.{◌≡◌, ℕ, ◌+◌, ◌*◌, ◌<◌, ◌≤◌, eqb, length, get_or};
+ghost use Rattle.std.specs.Prelude.{◌≡◌, ℕ, ◌+◌, ◌*◌, ◌<◌, ◌≤◌, eqb, length, get_or, if◌then◌else◌};
 ghost use Rattle.std.proofs.lemmas.List.Edits.{sets};
 ghost use Rattle.limits.specs.Limits.{NODES, CONDITIONS, ROWS, LASTCLOCK};
-ghost use Rattle.lists.specs.Lists.{if◌then◌else◌};
 ghost use Rattle.model.specs.Listing.{bit};
 ghost use Rattle.plan_index.specs.Index.{laid, Bounded};
 ghost use Rattle.log_rows.specs.Rows.{rows_of};
@@ -111,7 +110,7 @@ fn begin(index: &Index, come: u32, u: u32, new: u32, rows: &mut Rows, nodes: &mu
 // Where planning stands: the clock of the event, the clock at which a row is next over, the end of the last slot used,
 // and of the last one with a broadcast, the clock at which a process next ends, and the beginning of the round that the
 // event before lies in, 0 where there was none.
-#[derive(Drop)]
+#[derive(Clone, Copy)]
 pub struct Clocks {
     pub u: u32,
     pub come: u32,

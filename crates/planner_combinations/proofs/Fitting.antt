@@ -1,6 +1,7 @@
 -- The arrays of a plan's plan index fit each other and the bus, so that planning can go by them; and where planning of
 -- a combination stands at a clock, it can begin.
 -- Assumes nothing.
+use Rattle.std.specs.Prelude.{if◌then◌else◌}
 use mathlib.Core.Path.{◌≡◌, refl, sym, ap, ◌∙◌, subst}
 use mathlib.Core.Logic.{◌⊎◌, inl, inr}
 use mathlib.Core.Bool.{Bool, true, false, not, ◌&&◌}
@@ -11,7 +12,7 @@ use native.Mathlib.Omega.{arith}
 use lib.Dec.{eqb, leb, ltb}
 use lib.ListN.{length, get_or, get_or-eq_default}
 use borrow.Author.Tests.{eqb-true, eq-eqb, ne_eqb, ltb-true, ltb-false, not-true}
-use Rattle.lists.specs.Lists.{if◌then◌else◌, repeated}
+use Rattle.lists.specs.Lists.{repeated}
 use Rattle.lists.proofs.Tests.{two, both, clash}
 use Rattle.lists.proofs.Members.{keep_in}
 use Rattle.lists.proofs.Different.{keep_different}

@@ -1,6 +1,7 @@
 -- The plan of one combination: where a run of events leads from a clock at which the arrays hold what is placed
 -- before it is the combination's plan.
 -- Assumes nothing.
+use Rattle.std.specs.Prelude.{if◌then◌else◌}
 use mathlib.Core.Path.{◌≡◌, refl, sym, ap, ◌∙◌, subst}
 use mathlib.Core.Bool.{Bool, true, false}
 use mathlib.Core.List.Memᴰ.{head as here}
@@ -9,7 +10,7 @@ use Prim.Native.Nat.{ℕ, zero, suc, ◌+◌, ◌-◌, ◌*◌, ◌^◌, ◌≤�
 use native.Mathlib.Omega.{arith}
 use lib.Dec.{eqb}
 use lib.ListN.{length, get_or, replicate, length-append, length-map}
-use Rattle.lists.specs.Lists.{if◌then◌else◌, keep}
+use Rattle.lists.specs.Lists.{keep}
 use Rattle.lists.proofs.Counts.{keep_short}
 use Rattle.model.specs.Plan.{Lines, Slot}
 use Rattle.model.specs.Bus.{condition_row, beginning}

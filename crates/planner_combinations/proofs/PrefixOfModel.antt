@@ -1,6 +1,7 @@
 -- What a combination takes over from one that differs in one condition: where planning stands as that condition's value
 -- arrives, or at the end where it never does.
 -- Assumes nothing.
+use Rattle.std.specs.Prelude.{if◌then◌else◌}
 use mathlib.Core.Path.{◌≡◌, refl, sym, ap, ◌∙◌, subst}
 use mathlib.Core.Logic.{◌⊎◌, inl, inr}
 use mathlib.Core.Bool.{Bool, true, false}
@@ -12,7 +13,7 @@ use lib.Dec.{eqb, leb, ltb}
 use lib.ListN.{length, get_or, length-set, length-replicate, get_or-eq_default}
 use lib.Seq.{get_or-set_same, get_or-set_other}
 use borrow.Author.Tests.{eqb-true, eqb-false, lt-ltb, le-ltb, ltb-true, ltb-false, leb-true, leb-false}
-use Rattle.lists.specs.Lists.{if◌then◌else◌, keep, fill}
+use Rattle.lists.specs.Lists.{keep, fill}
 use Rattle.lists.proofs.Tests.{two, below_suc}
 use Rattle.lists.proofs.Members.{keep_in}
 use Rattle.lists.proofs.Fill.{fill_at, fill_past, fill_length, zeros_at}

@@ -2,6 +2,8 @@
 // specs/Combinations.antt says what the arrays hold.
 // Document 01: "The pass-over count sums, over all combinations, every slot in which a ready item of its node was not
 // taken."
+#![tactic(auto)]
+
 ghost use Rattle.std.specs.Prelude.{◌≡◌, ◌^◌, ◌<◌, ◌≤◌, length};
 ghost use Rattle.limits.specs.Limits.{CONDITIONS, ENTRIES};
 ghost use Rattle.model.specs.Plan.{Lines};
@@ -22,7 +24,7 @@ use planner_nodes::empty_nodes;
 use planner_prefix::{add_counts, shared_prefix, store_notes, store_rows};
 
 // The worst delay, and by node in how many slots of all combinations a ready item was not taken.
-#[derive(Drop)]
+#[derive(Clone, Copy)]
 pub struct Totals {
     pub delay: u32,
     pub passed: [u32; NODES],

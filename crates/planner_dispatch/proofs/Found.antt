@@ -1,13 +1,14 @@
 -- The first process of a node in dispatch order that passes a test, as the code has it, a number or 64, is the first
 -- process of all in dispatch order that is of the node and passes, as the model has it, a list of one or of none.
 -- Assumes nothing.
+use Rattle.std.specs.Prelude.{if◌then◌else◌}
 use mathlib.Core.Path.{◌≡◌, refl, ap, ◌∙◌}
 use mathlib.Core.Bool.{Bool, true, false, ◌&&◌}
 use mathlib.Core.List.Memᴰ.{head as here}
 use mathlib.Core.List.Memᴰ.{tail as there}
 use mathlib.Core.List.{List, [], ◌∷◌, Memᴰ as In}
 use Prim.Native.Nat.{ℕ}
-use Rattle.lists.specs.Lists.{if◌then◌else◌, keep, first}
+use Rattle.lists.specs.Lists.{keep, first}
 use Rattle.planner_dispatch.specs.Starts.{first_of}
 
 -- `mine` says which are of the node, `passes` is the test, `both` says both

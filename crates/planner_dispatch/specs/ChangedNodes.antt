@@ -1,8 +1,7 @@
 -- The starts of the nodes for which something is new at a clock, and which of the processes that start ends first.
 -- Assumes nothing.
-use Rattle.std.specs.Prelude.{ℕ, ◌≤◌, ◌<◌, ◌≡◌, ◌⊎◌, List, ltb, length, get_or}
+use Rattle.std.specs.Prelude.{ℕ, ◌≤◌, ◌<◌, ◌≡◌, ◌⊎◌, List, ltb, length, get_or, if◌then◌else◌}
 use Rattle.limits.specs.Limits.{NEVER}
-use Rattle.lists.specs.Lists.{if◌then◌else◌}
 use Rattle.planner_dispatch.specs.Starts.{Ends, start_by}
 
 module _ (processes : ℕ) (remote from knownby unmet run asany intofirst into : List ℕ) (u : ℕ) (dispatchfirst dispatch ticks : List ℕ) (slots : ℕ) where

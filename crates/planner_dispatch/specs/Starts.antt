@@ -3,8 +3,7 @@
 -- it has started none: the node is free where that is not after the clock `u`. The processes of node n are those of
 -- `dispatch` from place dispatchfirst[n] to dispatchfirst[n + 1].
 -- Assumes nothing.
-use Rattle.std.specs.Prelude.{ℕ, zero, suc, ◌+◌, Bool, ◌&&◌, List, [], ◌∷◌, eqb, leb, get_or, set}
-use Rattle.lists.specs.Lists.{if◌then◌else◌}
+use Rattle.std.specs.Prelude.{ℕ, zero, suc, ◌+◌, Bool, ◌&&◌, List, [], ◌∷◌, eqb, leb, get_or, set, if◌then◌else◌}
 use Rattle.log_queries.specs.Reading.{part, ready_by}
 
 -- the ends of the nodes' last processes, and the rows

@@ -1,6 +1,8 @@
 // The starts at one event: each free node starts the first ready process in its dispatch order. specs/Starts.antt says
 // what the arrays hold.
 // Document 01: "Each free node starts its ready process of highest urgency, ties to the lower number."
+#![tactic(auto)]
+
 ghost use Rattle.std.specs.Prelude.{◌≡◌, ◌⊎◌, ◌<◌, ◌≤◌};
 ghost use Rattle.limits.specs.Limits.{NODES, PROCESSES, EDGES, LASTCLOCK};
 ghost use Rattle.plan_index.specs.Index.{laid, Bounded};

@@ -1,13 +1,13 @@
 -- A store into an array of the list is a store into that array, and leaves the others.
 -- Assumes nothing.
-use mathlib.Core.Path.{◌≡◌, refl, ap, sym, ◌∙◌}
+use mathlib.Core.Path.{◌≡◌, refl, ap, ◌∙◌}
 use mathlib.Core.List.{List, [], ◌∷◌}
 use Prim.Native.Nat.{ℕ, suc, ◌+◌, ◌≤◌, ◌<◌}
 use native.Mathlib.Omega.{arith}
 use lib.ListN.{length, set, replicate}
 use lib.Seq.{sets}
 use Rattle.lists.proofs.Cutting.{within, behind, before, zeros_cut}
-use Rattle.planner_nodes.specs.Nodes.{Nodes, nodes_of, no_nodes, with_passed, with_noted, put_busy, put_passed, put_nextsend, put_lastarrival, put_waitend, put_noted, put_wait}
+use Rattle.planner_nodes.specs.Nodes.{nodes_of, no_nodes, with_passed, with_noted, put_busy, put_passed, put_nextsend, put_lastarrival, put_waitend, put_noted, put_wait}
 
 pub stored_busy : (s : List ℕ) (i v : ℕ) → i < 8 → nodes_of (set s (0 + i) v) ≡ put_busy i v (nodes_of s)
 unfolding nodes_of

@@ -1,6 +1,8 @@
 // What planning keeps by node from event to event, in one array of numbers: each field has its place there, and
 // functions that read and store it. specs/Nodes.antt has the same fields as a record.
 // Document 01: "Each free node starts its ready process of highest urgency, ties to the lower number."
+#![tactic(auto)]
+
 ghost use Rattle.std.specs.Prelude.{◌≡◌, ◌<◌, get_or};
 ghost use Rattle.limits.specs.Limits.{EDGES, NODES, NOTED};
 ghost use Rattle.planner_nodes.specs.Nodes.{nodes_of, no_nodes, put_busy, put_passed, put_nextsend};

@@ -1,12 +1,12 @@
 -- What the proof of `fill` rests on: a choice whose test is known, and what a slot leaves part by part.
 -- Assumes nothing.
+use Rattle.std.specs.Prelude.{if◌then◌else◌}
 use Prim.Native.Nat.{ℕ, ◌+◌}
 use mathlib.Core.Path.{◌≡◌, sym, ap, ◌∙◌}
 use mathlib.Core.Bool.{Bool, true, false}
 use mathlib.Core.List.{List}
 use lib.Dec.{eqb}
 use lib.ListN.{get_or, set}
-use Rattle.lists.specs.Lists.{if◌then◌else◌}
 use Rattle.planner_sends.specs.Packing.{Load, load}
 use Rattle.planner_packing.specs.Slot.{Bus, bus, filled}
 

@@ -1,9 +1,8 @@
 -- What the slot of a node takes as it begins, by a plan index, a log's rows and what planning keeps by node: the
 -- definitions of Packing.antt and Slot.antt at their arrays.
 -- Assumes nothing.
-use Rattle.std.specs.Prelude.{ℕ, ◌+◌, ◌-◌, ◌≤◌, ◌<◌, ◌≡◌, Bool, eqb, get_or, set}
+use Rattle.std.specs.Prelude.{ℕ, ◌+◌, ◌-◌, ◌≤◌, ◌<◌, ◌≡◌, Bool, eqb, get_or, set, if◌then◌else◌}
 use mathlib.Core.List.{List, Memᴰ as In}
-use Rattle.lists.specs.Lists.{if◌then◌else◌}
 use Rattle.plan_index.specs.declared.PlanIndex.{PlanIndex}
 use Rattle.log_rows.specs.Rows.{Rows, with_comes, with_place, put_comes, put_place}
 use Rattle.planner_nodes.specs.Nodes.{Nodes, with_passed, with_nextsend, with_lastarrival, with_waitend, with_wait, put_lastarrival}

@@ -1,8 +1,7 @@
 -- What the slot of a node takes as it begins, in the words of the arrays, and what is kept by node of it: `lastarrival`
 -- has the last clock at which an item arrives at the node. The clock is the tick plus 1.
 -- Assumes nothing.
-use Rattle.std.specs.Prelude.{ℕ, ◌+◌, ◌<◌, ◌≡◌, Bool, List, eqb, get_or, set}
-use Rattle.lists.specs.Lists.{if◌then◌else◌}
+use Rattle.std.specs.Prelude.{ℕ, ◌+◌, ◌<◌, ◌≡◌, Bool, List, eqb, get_or, set, if◌then◌else◌}
 use Rattle.planner_sends.specs.Packing.{Load, take_all, left_of, arrive_taken, arrive_all, broadcasts_sent, send_by, with_broadcast}
 use Rattle.planner_sends.specs.NextSends.{Relisted}
 

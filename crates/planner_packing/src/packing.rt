@@ -1,9 +1,8 @@
 // What a slot takes as it begins: the pending broadcasts of its node, lowest condition number first, then the messages
 // that wait in the order of the queue, side by side from byte 0. specs/Sending.antt says the same of the arrays.
-ghost use Rattle.std.specs.Prelude.{◌≡◌, ℕ, ◌+◌, ◌-◌, ◌<◌, ◌≤◌, leb, length, get_or};
+ghost use Rattle.std.specs.Prelude.{◌≡◌, ℕ, ◌+◌, ◌-◌, ◌<◌, ◌≤◌, leb, length, get_or, if◌then◌else◌};
 ghost use mathlib.Core.List.{Memᴰ as In};
 ghost use Rattle.limits.specs.Limits.{NODES, EDGES};
-ghost use Rattle.lists.specs.Lists.{if◌then◌else◌};
 ghost use Rattle.plan_index.specs.Index.{laid, Bounded};
 ghost use Rattle.log_rows.specs.Rows.{rows_of};
 ghost use Rattle.planner_nodes.specs.Nodes.{nodes_of, with_lastarrival, with_wait};
@@ -65,7 +64,7 @@ fn lay(index: &Index, e: usize, used: u32, end: u32, rows: &mut Rows, nodes: &mu
 
 // What a slot took: the bytes used, whether a ready item was not taken, and the place behind the messages that are
 // left.
-#[derive(Drop)]
+#[derive(Clone, Copy)]
 struct Packed {
     used: u32,
     short: bool,
@@ -153,7 +152,7 @@ fn arrive(broadcast: bool, slots: usize, end: u32, nodes: &mut Nodes)
 
 // What a slot took: the bytes used, whether a broadcast is among the items, whether a ready item was not taken, and the
 // place behind the messages that are left.
-#[derive(Drop)]
+#[derive(Clone, Copy)]
 pub struct Sent {
     pub used: u32,
     pub broadcast: bool,

@@ -27,7 +27,7 @@ fn pass_over(short: bool, n: usize, nodes: &mut Nodes)
 }
 
 // The end of the last slot used, and of the last one with a broadcast.
-#[derive(Drop)]
+#[derive(Clone, Copy)]
 pub struct Ends {
     pub slotend: u32,
     pub broadcastend: u32,
@@ -35,7 +35,7 @@ pub struct Ends {
 
 // The end of the last slot used, and of the last one with a broadcast; whether a ready item was not taken; and the
 // place behind the messages that are left.
-#[derive(Drop)]
+#[derive(Clone, Copy)]
 struct Filled {
     slotend: u32,
     broadcastend: u32,

@@ -1,5 +1,6 @@
 -- One turn of the loop that finds the last ends, and where a source's counts stand.
 -- Assumes nothing.
+use Rattle.std.specs.Prelude.{if◌then◌else◌}
 use mathlib.Core.Path.{◌≡◌, sym, ap, ◌∙◌}
 use mathlib.Core.Bool.{Bool, true, false}
 use mathlib.Core.List.{List}
@@ -8,7 +9,6 @@ use native.Mathlib.Numerals.{add-one}
 use native.Mathlib.Omega.{arith}
 use lib.Dec.{eqb}
 use lib.ListN.{get_or, set}
-use Rattle.lists.specs.Lists.{if◌then◌else◌}
 use Rattle.planner_prefix.specs.declared.prefix.Source.{Source}
 use Rattle.planner_prefix.specs.Prefix.{no_value, ends_below, counts_at}
 

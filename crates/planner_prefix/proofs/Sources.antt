@@ -1,6 +1,7 @@
 -- The combination that another takes over from: it lacks one condition of the other's, is earlier, and differs from it
 -- in that condition alone.
 -- Assumes nothing.
+use Rattle.std.specs.Prelude.{if◌then◌else◌}
 use mathlib.Core.Path.{◌≡◌, refl, sym, ap, ◌∙◌, subst, subst₂}
 use mathlib.Core.Logic.{◌⊎◌, inl, inr}
 use mathlib.Core.Bool.{Bool, true, false, false≢true, not, ◌||◌, beq}
@@ -14,7 +15,7 @@ use lib.ListN.{length, get_or, get_or-eq_default}
 use lib.Pow.{pow_pos}
 use borrow.Author.Tests.{eq-eqb, ne_eqb, eqb-true, eqb-false, leb-true, leb-false}
 use Rattle.limits.specs.Limits.{ROWS}
-use Rattle.lists.specs.Lists.{if◌then◌else◌, all, below}
+use Rattle.lists.specs.Lists.{all, below}
 use Rattle.lists.proofs.Tests.{two}
 use Rattle.lists.proofs.Members.{all_in, in_below, in_getD}
 use Rattle.model.specs.Plan.{Lines}

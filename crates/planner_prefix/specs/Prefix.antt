@@ -1,9 +1,9 @@
 -- What a combination takes over from an earlier one: the rows placed before a clock, by node the last end of a process
 -- among them, and the counts noted then.
 -- Assumes nothing.
-use Rattle.std.specs.Prelude.{ℕ, zero, suc, ◌+◌, ◌-◌, ◌*◌, ◌/◌, ◌%◌, ◌^◌, ◌<◌, max, ◌≡◌, List, eqb, leb, ltb, get_or, set, replicate}
+use Rattle.std.specs.Prelude.{ℕ, zero, suc, ◌+◌, ◌-◌, ◌*◌, ◌/◌, ◌%◌, ◌^◌, ◌<◌, max, ◌≡◌, List, eqb, leb, ltb, get_or, set, replicate, if◌then◌else◌}
 use Rattle.limits.specs.Limits.{ROWS, NEVER}
-use Rattle.lists.specs.Lists.{if◌then◌else◌, fill}
+use Rattle.lists.specs.Lists.{fill}
 use Rattle.table_entries.specs.Logs.{block}
 use Rattle.plan_index.specs.declared.PlanIndex.{PlanIndex}
 use Rattle.log_rows.specs.Rows.{Rows, no_rows, with_comes, with_place}

@@ -19,7 +19,7 @@ use planner_nodes::{NOTED_AT, Nodes, PASSED_AT, busy_of, put_busy};
 
 // The combination that another takes over from, the condition in which the two differ, and the clock up to which they
 // are planned alike: that at which the condition's value arrives, or `NEVER` where it never does.
-#[derive(Drop)]
+#[derive(Clone, Copy)]
 pub struct Source {
     pub from: usize,
     pub condition: usize,

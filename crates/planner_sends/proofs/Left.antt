@@ -1,5 +1,6 @@
 -- What a slot leaves: after it has taken its items, its node has an item pending just where a ready item was not taken.
 -- Assumes nothing.
+use Rattle.std.specs.Prelude.{if◌then◌else◌}
 use mathlib.Core.Path.{◌≡◌, refl, sym, ap, ◌∙◌, subst}
 use mathlib.Core.Logic.{◌⊎◌, inl, inr}
 use mathlib.Core.Bool.{Bool, true, false, not, ◌&&◌, ◌||◌, or_comm}
@@ -12,7 +13,7 @@ use lib.Dec.{eqb, leb, ltb}
 use lib.ListN.{length, get_or, set, length-set}
 use lib.Seq.{get_or-set_same, get_or-set_other}
 use borrow.Author.Tests.{eqb-true, eqb-false, eq-eqb, ne_eqb, ltb-true, ltb-false, leb-true, lt-ltb, le-ltb, le-leb}
-use Rattle.lists.specs.Lists.{if◌then◌else◌, any, keep, below, repeated}
+use Rattle.lists.specs.Lists.{any, keep, below, repeated}
 use Rattle.lists.proofs.Tests.{two, both, clash, and_false, or_false, or_right}
 use Rattle.lists.proofs.Members.{any_same, any_kept, keep_in, below_in}
 use Rattle.lists.proofs.Keep.{keep_same}

@@ -1,6 +1,7 @@
 -- Rows that are tried one after another in arrays that hold a log: the arrays then hold that log with what `pack` takes
 -- in front of it, and something was passed over just where `pack` takes fewer than there are.
 -- Assumes nothing.
+use Rattle.std.specs.Prelude.{if◌then◌else◌}
 use mathlib.Core.Path.{◌≡◌, refl, sym, ap, ◌∙◌, subst}
 use mathlib.Core.Logic.{◌⊎◌, inl, inr}
 use mathlib.Core.Bool.{Bool, true, false, ◌&&◌, ◌||◌}
@@ -13,7 +14,7 @@ use lib.Dec.{eqb, leb, ltb}
 use lib.ListN.{length, get_or, set}
 use lib.Seq.{get_or-set_other}
 use borrow.Author.Tests.{eqb-true, ltb-true, ltb-false, lt-ltb, le-ltb, leb-true, ne_eqb}
-use Rattle.lists.specs.Lists.{if◌then◌else◌, keep, repeated}
+use Rattle.lists.specs.Lists.{keep, repeated}
 use Rattle.lists.proofs.Tests.{two, or_false, or_right}
 use Rattle.lists.proofs.Keep.{keep_append, keep_same, keep_false}
 use Rattle.lists.proofs.Different.{different_parts}

@@ -1,6 +1,7 @@
 -- What a slot takes, as rows tried one after another: the broadcasts first, then the messages that waited as the slot
 -- began; and which rows of the arrays change.
 -- Assumes nothing.
+use Rattle.std.specs.Prelude.{if◌then◌else◌}
 use mathlib.Core.Path.{◌≡◌, refl, sym, ap, ◌∙◌, subst}
 use mathlib.Core.Logic.{◌⊎◌, inl, inr}
 use mathlib.Core.Bool.{Bool, true, false, not, ◌&&◌, ◌||◌}
@@ -13,7 +14,7 @@ use lib.Dec.{eqb, leb, ltb}
 use lib.ListN.{length, get_or, set, length-set, get_or-eq_default}
 use lib.Seq.{get_or-set_same, get_or-set_other}
 use borrow.Author.Tests.{eqb-true, eqb-false, ltb-true, ltb-false, lt-ltb, le-ltb, le-leb, lt-leb}
-use Rattle.lists.specs.Lists.{if◌then◌else◌, any, keep, repeated}
+use Rattle.lists.specs.Lists.{any, keep, repeated}
 use Rattle.lists.proofs.Tests.{two, both, and_false, or_false, or_right}
 use Rattle.lists.proofs.Members.{any_in, none_in}
 use Rattle.lists.proofs.Different.{different_parts}

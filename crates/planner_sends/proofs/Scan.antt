@@ -1,6 +1,7 @@
 -- The broadcasts of a slot, one by one: what one turn of the loop does to what is taken so far, and where it may end;
 -- and whether a node has any.
 -- Assumes nothing.
+use Rattle.std.specs.Prelude.{if◌then◌else◌}
 use mathlib.Core.Path.{◌≡◌, refl, ap, ◌∙◌}
 use mathlib.Core.Bool.{Bool, true, false, not, ◌||◌}
 use mathlib.Core.List.Memᴰ.{head as here}
@@ -9,7 +10,7 @@ use Prim.Native.Nat.{ℕ, zero, suc, min, ◌+◌, ◌-◌, ◌≤◌, ◌<◌}
 use native.Mathlib.Omega.{arith}
 use lib.Dec.{ltb}
 use lib.ListN.{length, set, drop}
-use Rattle.lists.specs.Lists.{if◌then◌else◌, any, null, keep, below}
+use Rattle.lists.specs.Lists.{any, null, keep, below}
 use Rattle.lists.proofs.Members.{keep_in, below_in}
 use Rattle.model.specs.Listing.{bit}
 use Rattle.bitset.specs.Masks.{members, mask_from}

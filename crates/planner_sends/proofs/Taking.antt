@@ -1,6 +1,7 @@
 -- The scan of the messages that wait, message by message: those before place j are taken or left, and what is still to
 -- be tried gives the whole answer.
 -- Assumes nothing.
+use Rattle.std.specs.Prelude.{if◌then◌else◌}
 use mathlib.Core.Path.{◌≡◌, refl, sym, ap, ◌∙◌, subst}
 use mathlib.Core.Bool.{Bool, true, false, ◌&&◌}
 use mathlib.Core.List.{List, [], ◌∷◌, ◌++◌, append-nil, append_assoc}
@@ -9,7 +10,6 @@ use native.Mathlib.Omega.{arith}
 use lib.Dec.{leb, ltb}
 use lib.ListN.{get_or, set}
 use borrow.Author.Tests.{leb-true, leb-false, lt-ltb, le-ltb, le-leb, lt-leb}
-use Rattle.lists.specs.Lists.{if◌then◌else◌}
 use Rattle.log_queries.specs.Reading.{part}
 use Rattle.log_queries.proofs.ArrayParts.{part_end, part_next, part_in}
 use Rattle.planner_sends.specs.Packing.{Load, load, laid, passed, tried, fits_in, try_one, take_all, left_of, arrive_taken, Listed}

@@ -3,9 +3,9 @@
 -- at it, `busy` the end of its last process, and `nextsend` the clock at which its slot next takes an item, `no_event`
 -- where it has none pending.
 -- Assumes nothing.
-use Rattle.std.specs.Prelude.{ℕ, zero, suc, min, Bool, ◌||◌, List, [], ◌∷◌, eqb, ltb, get_or}
+use Rattle.std.specs.Prelude.{ℕ, zero, suc, min, Bool, ◌||◌, List, [], ◌∷◌, eqb, ltb, get_or, if◌then◌else◌}
 use Rattle.limits.specs.Limits.{NEVER}
-use Rattle.lists.specs.Lists.{if◌then◌else◌, below}
+use Rattle.lists.specs.Lists.{below}
 
 -- a clock that no event has: the answer where no event is left
 abbrev pub no_event : ℕ

@@ -2,9 +2,9 @@
 -- node's slot next takes an item, `no_event` where the node has none pending, and `wait` the messages that are ready
 -- and not sent. The clock is the tick plus 1.
 -- Assumes nothing.
-use Rattle.std.specs.Prelude.{ℕ, zero, suc, ◌+◌, ◌-◌, ◌≤◌, ◌<◌, ◌≡◌, Bool, true, false, ◌||◌, List, eqb, ltb, length, get_or, set}
+use Rattle.std.specs.Prelude.{ℕ, zero, suc, ◌+◌, ◌-◌, ◌≤◌, ◌<◌, ◌≡◌, Bool, true, false, ◌||◌, List, eqb, ltb, length, get_or, set, if◌then◌else◌}
 use Rattle.limits.specs.Limits.{ROUNDTICKS, SLOTTICKS}
-use Rattle.lists.specs.Lists.{if◌then◌else◌, keep}
+use Rattle.lists.specs.Lists.{keep}
 use Rattle.model.specs.Listing.{bit}
 use Rattle.plan_index.specs.declared.PlanIndex.{PlanIndex}
 use Rattle.log_rows.specs.Rows.{Rows}

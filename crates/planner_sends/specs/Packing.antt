@@ -2,8 +2,8 @@
 -- `from`, `knownby`, `unmet` and `bytes` by edge. Condition k's row is conditionrow + k, edge e's is processes + e, and
 -- the messages of the slot's node are those of `queue` from place a to before place b. The clock u is the tick plus 1.
 -- Assumes nothing.
-use Rattle.std.specs.Prelude.{ℕ, zero, suc, ◌+◌, ◌-◌, ◌≤◌, ◌<◌, Bool, true, not, ◌&&◌, ◌||◌, ◌≡◌, List, [], ◌∷◌, eqb, leb, ltb, length, get_or, set}
-use Rattle.lists.specs.Lists.{if◌then◌else◌, any, below}
+use Rattle.std.specs.Prelude.{ℕ, zero, suc, ◌+◌, ◌-◌, ◌≤◌, ◌<◌, Bool, true, not, ◌&&◌, ◌||◌, ◌≡◌, List, [], ◌∷◌, eqb, leb, ltb, length, get_or, set, if◌then◌else◌}
+use Rattle.lists.specs.Lists.{any, below}
 use Rattle.bitset.specs.Masks.{members, mask_from}
 use Rattle.log_queries.specs.Reading.{came_by, placed_by, part, message_by}
 

@@ -57,7 +57,7 @@ pub(crate) fn has_broadcast(index: &Index, rows: &Rows, n: usize, u: u32) -> boo
 }
 
 // Bytes used so far, and whether a ready item was not taken.
-#[derive(Drop)]
+#[derive(Clone, Copy)]
 pub struct Taken {
     pub used: u32,
     pub short: bool,

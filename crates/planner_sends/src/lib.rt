@@ -2,6 +2,8 @@
 // queue, when its slot next takes an item, for which nodes something changed, and when the next event is.
 // specs/Packing.antt says what a slot takes.
 // Document 01: "At its beginning a slot takes items of its node ready by that tick."
+#![tactic(auto)]
+
 mod broadcasts;
 mod clocks;
 mod messages;

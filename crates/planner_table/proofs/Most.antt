@@ -2,6 +2,7 @@
 -- 8,576 frames: one entry for each row and combination, and one frame for each row of an item and combination. And its
 -- worst delay is at most 999,999,999.
 -- Assumes nothing.
+use Rattle.std.specs.Prelude.{if◌then◌else◌}
 use mathlib.Core.Path.{◌≡◌, sym, ap, ◌∙◌}
 use mathlib.Core.Bool.{Bool, true, false, not}
 use mathlib.Core.List.{List, [], ◌++◌, map, Memᴰ as In}
@@ -10,7 +11,7 @@ use native.Mathlib.Nat.{pow-le-pow_right}
 use native.Mathlib.Omega.{arith}
 use borrow.Author.Tests.{lt-ltb}
 use lib.ListN.{length, length-map, length-append}
-use Rattle.lists.specs.Lists.{if◌then◌else◌, keep, each, below, upfrom}
+use Rattle.lists.specs.Lists.{keep, each, below, upfrom}
 use Rattle.lists.proofs.Members.{map_in, keep_in, below_in, no_members}
 use Rattle.lists.proofs.Keep.{keep_each, each_append, length_upfrom}
 use Rattle.lists.proofs.Parts.{upfrom_append}

@@ -13,7 +13,6 @@ use Rattle.table_entries.specs.Words.{Laid, table}
 use Rattle.table_frames.specs.Packed.{packed_entry}
 use Rattle.planner_combinations.specs.declared.Totals.{Totals}
 use Rattle.planner_combinations.specs.Combinations.{PlannedAll}
-use Rattle.planner_table.specs.declared.Made.{Made}
 use Rattle.planner_table.specs.declared.Planned.{Planned}
 use Rattle.planner_table.specs.declared.Planned.TheVariants as answer
 

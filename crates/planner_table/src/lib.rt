@@ -2,13 +2,15 @@
 // planned, entries and frames are listed, and table, frame list and the nodes' pass-over counts are written only where
 // both lists fit.
 // Document 01: "every lent buffer keeps its contents; an accepted call leaves words beyond its output unchanged"
+#![tactic(auto)]
+
 ghost use Rattle.std.specs.Prelude.{◌≡◌, map, ◌≤◌, get_or, length, replicate};
 ghost use Rattle.limits.specs.Limits.{NODES, COMBINATIONS, ROWENDS, ENTRIES};
 ghost use Rattle.lists.specs.Front.{front};
 ghost use Rattle.lists.specs.Lists.{below};
 ghost use Rattle.model.specs.Plan.{Lines};
 ghost use Rattle.model.specs.Refusals.{nothing, plan_refusal};
-ghost use Rattle.model.specs.Table.{result};
+ghost use Rattle.model.specs.Table.{result as result_of};
 ghost use Rattle.plan.specs.Memory.{lines};
 ghost use Rattle.plan_index.specs.Index.{laid};
 ghost use Rattle.plan_layout.specs.Indexed.{Indexed};
@@ -27,7 +29,7 @@ use table_frames::{collect, write_both};
 
 // What the planner answers where nothing is refused: how many words of the table and of the frame list are written, and
 // the worst delay. The counts of the nodes stand in words that the caller lends.
-#[derive(Drop)]
+#[derive(Clone, Copy)]
 pub struct Made {
     pub words: usize,
     pub framewords: usize,
@@ -35,20 +37,20 @@ pub struct Made {
 }
 
 // The planner's answer: what it made, or the number of the refusal.
-#[derive(Drop)]
+#[derive(Clone, Copy)]
 pub enum Planned {
     Made(Made),
     Refused(u32),
 }
 
 fn no_places() -> [u32; ROWENDS]
-    ensures* { λ r. ⌜ r ≡ replicate ROWENDS 0 ⌝ }
+    ensures { result ≡ replicate ROWENDS 0 }
 {
     [0u32; ROWENDS]
 }
 
 fn no_clocks() -> [u32; COMBINATIONS]
-    ensures* { λ r. ⌜ r ≡ replicate COMBINATIONS 0 ⌝ }
+    ensures { result ≡ replicate COMBINATIONS 0 }
 {
     [0u32; COMBINATIONS]
 }
@@ -66,9 +68,9 @@ fn list_entries(
 ) -> usize
     requires { SomeLogs (laid index.now) comes.now place.now since.now × (length list.old ≡ ENTRIES)
         × (length ends.old ≡ ROWENDS) }
-    ensures* { λ count. ⌜ ((p : Lines) → plan_refusal p ≡ nothing → Indexed p (laid index.now) →
+    ensures { (p : Lines) → plan_refusal p ≡ nothing → Indexed p (laid index.now) →
         Logs p comes.now place.now since.now (laid index.now).span →
-        Entered p list.new ends.new count) ⌝ }
+        Entered p list.new ends.new result }
 {
     let combinations = how_many(conditions_of(index));
     all_entries(index, comes, place, since, combinations, list, ends)
@@ -77,8 +79,8 @@ fn list_entries(
 // Stores the counts of the nodes, node 0's first, as the first numbers of `passed`.
 fn store_counts(t: Totals, slots: usize, passed: &mut [u32; NODES])
     requires { slots ≤ NODES }
-    ensures* { λ _. ⌜ passed.new ≡ front (map (λ n. get_or t.passed n 0) (below slots))
-        passed.old ⌝ }
+    ensures { passed.new ≡ front (map (λ n. get_or t.passed n 0) (below slots))
+        passed.old }
 {
     let counts = t.passed;
     copy_part(&counts, 0, slots, passed);
@@ -98,10 +100,10 @@ fn write_all(
     passed: &mut [u32; NODES],
 ) -> Planned
     requires { SomePlans (laid index.now) t comes.now place.now since.now }
-    ensures* { λ r. ⌜ ((p : Lines) → plan_refusal p ≡ nothing → Indexed p (laid index.now) →
+    ensures { (p : Lines) → plan_refusal p ≡ nothing → Indexed p (laid index.now) →
         PlannedAll p (laid index.now).span t comes.now place.now
-        since.now → Answers p r table.old frames.old passed.old
-        table.new frames.new passed.new) ⌝ }
+        since.now → Answers p result table.old frames.old passed.old
+        table.new frames.new passed.new }
 {
     let rows = rows_of(index);
     let mut list = [1u64; ENTRIES];
@@ -133,8 +135,8 @@ pub fn plan_accepted(
     passed: &mut [u32; NODES],
 ) -> Planned
     requires { plan_refusal (lines p) ≡ nothing }
-    ensures* { λ r. ⌜ Answers (lines p) r table.old frames.old passed.old
-        table.new frames.new passed.new ⌝ }
+    ensures { Answers (lines p) result table.old frames.old passed.old
+        table.new frames.new passed.new }
 {
     let index = of_plan(p);
     let mut comes = [1u32; ENTRIES];
@@ -148,7 +150,7 @@ pub fn plan_accepted(
 // is lent, whatever room its table would need.
 pub fn count_pass_overs(p: Plan, passed: &mut [u32; NODES])
     requires { plan_refusal (lines p) ≡ nothing }
-    ensures* { λ _. ⌜ passed.new ≡ front (result (lines p)).passed passed.old ⌝ }
+    ensures { passed.new ≡ front (result_of (lines p)).passed passed.old }
 {
     let index = of_plan(p);
     let mut comes = [1u32; ENTRIES];

@@ -12,7 +12,7 @@ use lib.ListN.{length, take}
 use lib.Seq.{take_all}
 use Rattle.limits.specs.Limits.{NODES}
 use Rattle.model.specs.Plan.{Lines}
-use Rattle.model.specs.Refusals.{Refusal, nothing, refused, sentence, or_else, plan_refusal}
+use Rattle.model.specs.Refusals.{Refusal, nothing, sentence, or_else, plan_refusal}
 use Rattle.model.specs.Table.{Answer, turned_down, made, Result, result, entry_words, frame_words, entries_of, frames_of, answered, room_refusal, plan_answer}
 use Rattle.model.specs.Text.{Written, not_written, unless_refused, fitting, bytes_after}
 use Rattle.model.specs.Listing.{listing, words_listing, printed, plan_listing, listing_refusal, list_plan}

@@ -12,7 +12,7 @@ use lib.ListN.{length, drop, length-append}
 use Rattle.limits.specs.Limits.{LISTING}
 use Rattle.lists.specs.Front.{front}
 use Rattle.model.specs.Plan.{Lines}
-use Rattle.model.specs.Refusals.{Refusal, nothing, sentence, or_else, plan_refusal}
+use Rattle.model.specs.Refusals.{nothing, sentence, or_else, plan_refusal}
 use Rattle.model.specs.Table.{result, entry_words, frame_words, answered, room_refusal, plan_answer}
 use Rattle.model.specs.Text.{Reading, reads, not_read, AnswersText, Written, wrote, not_written, unless_refused, bytes_after}
 use Rattle.model.specs.Listing.{refused_line, printed, program_prints, plan_listing, listing_refusal, list_plan, list_reading}

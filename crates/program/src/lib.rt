@@ -2,6 +2,8 @@
 // for a text, the listing or the line of that refusal.
 // Document 01: "For S the planning program, reading standard input and lending 3,000 entries and 2,000 frames, prints
 // exactly"
+#![tactic(auto)]
+
 mod listed;
 mod printed;
 

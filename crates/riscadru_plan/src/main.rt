@@ -3,29 +3,34 @@
 // that no part of an input is planned; that, and a write that fails, it says on standard error.
 // Document 01: "For S the planning program, reading standard input and lending 3,000 entries and 2,000 frames, prints
 // exactly"
+#![tactic(auto)]
+
 use limits::{LISTING, TEXT};
 use program::print_all;
 use standard_input::{Input, read_all};
+use std::io;
 
 // Prints what the text is answered with.
-fn print(text: &[u8]) {
+fn print(rt: &HostRuntime, text: &[u8]) -> io::Result<()> {
     let mut out = [0u8; LISTING];
     let n = print_all(text, &mut out);
-    let written = io::write_all(1, &out[..n]);
-    if written {
-        return;
+    let written = rt.stdout().write_all(&out[..n]);
+    match written {
+        Ok(()) => Ok(()),
+        Err(_) => rt
+            .stderr()
+            .write_all(b"riscadru_plan: standard output could not be written\n"),
     }
-    io::write_all(2, b"riscadru_plan: standard output could not be written\n");
 }
 
-fn main() {
+fn main(rt: HostRuntime) -> io::Result<()> {
     // One byte more than a text may have, so that a longer input is refused as too long.
     let mut text = [0u8; TEXT + 1];
-    let input = read_all(&mut text);
+    let input = read_all(&mut rt.stdin(), &mut text);
     match input {
-        Input::Failed => {
-            io::write_all(2, b"riscadru_plan: standard input could not be read\n");
-        }
-        Input::Bytes(n) => print(&text[..n]),
+        Input::Failed => rt
+            .stderr()
+            .write_all(b"riscadru_plan: standard input could not be read\n"),
+        Input::Bytes(n) => print(&rt, &text[..n]),
     }
 }

@@ -1,5 +1,5 @@
 -- What was read lies within the bytes lent for it. Which bytes were read, and whether a read failed, no contract can
--- say: that is C's `read`.
+-- say: that is the system's `read`.
 -- Assumes nothing.
 use Rattle.std.specs.Prelude.{ℕ, ◌≤◌}
 use Rattle.standard_input.specs.declared.Input.{Input}

@@ -1,5 +1,7 @@
 // The entries of a start table, as numbers in ascending order row by row, and their words.
 // Document 01: "Equal entries stand once; order is row, tick, known, values."
+#![tactic(auto)]
+
 mod ascending;
 mod entries;
 mod entry_words;

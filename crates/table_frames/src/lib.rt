@@ -2,6 +2,8 @@
 // suffice.
 // Document 01: "The frame list has three words for each slot occurrence used in any combination: tick, node, greatest
 // last used byte counted from 1; ascending ticks."
+#![tactic(auto)]
+
 mod both;
 mod frames;
 

@@ -1,6 +1,7 @@
 // Bytes put into lent bytes from a place on, and the line writer. Those that lie within are stored, and all are
 // counted: with no bytes lent, a put counts.
 // Document 01: "The line writer holds the output bytes and how far they are filled."
+#![tactic(auto)]
 
 ghost use Rattle.std.specs.Prelude.{◌≡◌, [], ◌∷◌, ◌++◌, ◌+◌, ◌<◌};
 ghost use Rattle.model.specs.Text.{decimal};

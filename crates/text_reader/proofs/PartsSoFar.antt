@@ -1,6 +1,7 @@
 -- An input read byte by byte up to its first empty line: how that begins, what one byte more makes of it, and how it
 -- ends.
 -- Assumes nothing.
+use Rattle.std.specs.Prelude.{if◌then◌else◌}
 use Prim.Native.Nat.{ℕ, ◌+◌, ◌≤◌, ◌<◌}
 use mathlib.Core.Path.{◌≡◌, refl, ap, sym, ◌∙◌}
 use mathlib.Core.Bool.{Bool, true, false, ◌&&◌}
@@ -10,7 +11,6 @@ use native.Mathlib.Omega.{arith}
 use lib.Dec.{eqb}
 use lib.ListN.{length, take, drop, get_or, drop_of_length-le}
 use lib.Seq.{drop-cons, take-suc}
-use Rattle.lists.specs.Lists.{if◌then◌else◌}
 use Rattle.model.specs.ListingText.{before_empty, after_empty, plan_part, listing_part}
 use Rattle.text_reader.specs.Parts.{Parted}
 

@@ -7,7 +7,7 @@ use plan::Plan;
 use text_scanner::{EdgeAt, NumberAt, ProcessAt, SlotAt, condition, edge, process, slot};
 
 // A plan with the lines of one kind that were read, and the position behind them.
-#[derive(Drop)]
+#[derive(Clone, Copy)]
 pub struct Filled {
     pub plan: Plan,
     pub next: usize,

@@ -13,7 +13,7 @@ use plan_refusals::{Refusal, refuse};
 use text_scanner::{PlanLineAt, plan_line};
 
 // What a text is read as: the plan, or a refusal and the empty plan.
-#[derive(Drop)]
+#[derive(Clone, Copy)]
 pub struct Read {
     pub refusal: Refusal,
     pub plan: Plan,

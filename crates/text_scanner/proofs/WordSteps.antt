@@ -1,5 +1,6 @@
 -- What the grammar reads in one turn of the loops over a word and over digits.
 -- Assumes nothing.
+use Rattle.std.specs.Prelude.{if◌then◌else◌}
 use Prim.Native.Nat.{ℕ, ◌+◌, ◌-◌, ◌*◌, ◌≤◌, ◌<◌}
 use mathlib.Core.Path.{◌≡◌, refl}
 use mathlib.Core.Bool.{Bool, true, false}
@@ -10,7 +11,6 @@ use borrow.Author.Tests.{eq-eqb, ne_eqb}
 use lib.Dec.{eqb}
 use lib.ListN.{length, drop, get_or, drop_of_length-le}
 use lib.Seq.{drop-cons}
-use Rattle.lists.specs.Lists.{if◌then◌else◌}
 use Rattle.text_grammar.specs.Parse.{none, got, word_at, digit, goes_on, digits_to, number_to}
 
 -- a word longer than the rest of the text; its byte i against byte j of the text; its end

@@ -8,21 +8,21 @@ use crate::words::{NumberAt, WordAt, closed, word};
 use plan::{Pick, Waits, When};
 
 // A `pick` and the position behind its line, or that none stands there.
-#[derive(Drop)]
+#[derive(Clone, Copy)]
 pub enum PickAt {
     Got(Pick, usize),
     No,
 }
 
 // A `waits` and the position behind its line, or that none stands there.
-#[derive(Drop)]
+#[derive(Clone, Copy)]
 pub enum WaitsAt {
     Got(Waits, usize),
     No,
 }
 
 // A `when` and the position behind its line, or that none stands there.
-#[derive(Drop)]
+#[derive(Clone, Copy)]
 pub enum WhenAt {
     Got(When, usize),
     No,

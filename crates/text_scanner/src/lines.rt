@@ -9,28 +9,28 @@ use crate::words::{NumberAt, closed, field};
 use plan::{Edge, PlanLine, Process, Slot};
 
 // A plan line and the position behind it, or that none stands there.
-#[derive(Drop)]
+#[derive(Clone, Copy)]
 pub enum PlanLineAt {
     Got(PlanLine, usize),
     No,
 }
 
 // A slot and the position behind its line, or that none stands there.
-#[derive(Drop)]
+#[derive(Clone, Copy)]
 pub enum SlotAt {
     Got(Slot, usize),
     No,
 }
 
 // A process and the position behind its line, or that none stands there.
-#[derive(Drop)]
+#[derive(Clone, Copy)]
 pub enum ProcessAt {
     Got(Process, usize),
     No,
 }
 
 // An edge and the position behind its line, or that none stands there.
-#[derive(Drop)]
+#[derive(Clone, Copy)]
 pub enum EdgeAt {
     Got(Edge, usize),
     No,

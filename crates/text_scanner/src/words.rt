@@ -6,14 +6,14 @@ ghost use Rattle.text_scanner.specs.Place.{Scanned, next, number};
 use crate::digits::{is_digit, may_follow, value};
 
 // Behind a word, or that the word does not stand there.
-#[derive(Drop)]
+#[derive(Clone, Copy)]
 pub enum WordAt {
     Got(usize),
     No,
 }
 
 // A number and the position behind it and the byte that ends it, or that none stands there.
-#[derive(Drop)]
+#[derive(Clone, Copy)]
 pub enum NumberAt {
     Got(u32, usize),
     No,

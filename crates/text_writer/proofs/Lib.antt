@@ -8,7 +8,3 @@ pub mod TextRuns
 pub mod WholeText
 -- Laws of what the plan writer writes: ReadBack (what is written is read).
 pub mod ReadBack
--- Laws of the line writer: ThinPut (the walk of a thin function over a covered put), PlanParts (the parts of the text
--- that it goes through).
-mod ThinPut
-mod PlanParts

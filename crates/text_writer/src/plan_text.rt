@@ -15,68 +15,48 @@ use plan::Plan;
 use text_lines::{Writer, filled, start};
 
 // The line writer once it has the plan line.
-fn plan_line<'a>(w: Writer<'a>, p: Plan) -> Writer<'a>
-    requires { Counts w.at (plan_line (lines p).plan) }
-    ensures { result ≡ put_on w.entry (plan_line (lines p).plan) }
+fn plan_line(w: &mut Writer<'_>, p: Plan)
+    requires { Counts w.old.at (plan_line (lines p).plan) }
+    ensures { w.new ≡ put_on w.old (plan_line (lines p).plan) }
 {
     let at = w.at;
-    let end = put_plan_line(&mut *w.out, at, p);
-    Writer {
-        out: w.out,
-        at: end,
-    }
+    w.at = put_plan_line(&mut *w.out, at, p);
 }
 
 // The line writer once it has the slot lines.
-fn slots<'a>(w: Writer<'a>, p: Plan) -> Writer<'a>
-    requires { (p.slots ≤ NODES) × Counts w.at (each slot_line (lines p).slots) }
-    ensures { result ≡ put_on w.entry (each slot_line (lines p).slots) }
+fn slots(w: &mut Writer<'_>, p: Plan)
+    requires { (p.slots ≤ NODES) × Counts w.old.at (each slot_line (lines p).slots) }
+    ensures { w.new ≡ put_on w.old (each slot_line (lines p).slots) }
 {
     let at = w.at;
-    let end = put_slots(&mut *w.out, at, p);
-    Writer {
-        out: w.out,
-        at: end,
-    }
+    w.at = put_slots(&mut *w.out, at, p);
 }
 
 // The line writer once it has the process lines.
-fn processes<'a>(w: Writer<'a>, p: Plan) -> Writer<'a>
-    requires { (p.processes ≤ PROCESSES) × Counts w.at (each process_line (lines p).processes) }
-    ensures { result ≡ put_on w.entry (each process_line (lines p).processes) }
+fn processes(w: &mut Writer<'_>, p: Plan)
+    requires { (p.processes ≤ PROCESSES) × Counts w.old.at (each process_line (lines p).processes) }
+    ensures { w.new ≡ put_on w.old (each process_line (lines p).processes) }
 {
     let at = w.at;
-    let end = put_processes(&mut *w.out, at, p);
-    Writer {
-        out: w.out,
-        at: end,
-    }
+    w.at = put_processes(&mut *w.out, at, p);
 }
 
 // The line writer once it has the condition lines.
-fn conditions<'a>(w: Writer<'a>, p: Plan) -> Writer<'a>
-    requires { (p.conditions ≤ CONDITIONS) × Counts w.at (each condition_line (lines p).conditions) }
-    ensures { result ≡ put_on w.entry (each condition_line (lines p).conditions) }
+fn conditions(w: &mut Writer<'_>, p: Plan)
+    requires { (p.conditions ≤ CONDITIONS) × Counts w.old.at (each condition_line (lines p).conditions) }
+    ensures { w.new ≡ put_on w.old (each condition_line (lines p).conditions) }
 {
     let at = w.at;
-    let end = put_conditions(&mut *w.out, at, p);
-    Writer {
-        out: w.out,
-        at: end,
-    }
+    w.at = put_conditions(&mut *w.out, at, p);
 }
 
 // The line writer once it has the edge lines.
-fn edges<'a>(w: Writer<'a>, p: Plan) -> Writer<'a>
-    requires { (p.edges ≤ EDGES) × Counts w.at (each edge_line (lines p).edges) }
-    ensures { result ≡ put_on w.entry (each edge_line (lines p).edges) }
+fn edges(w: &mut Writer<'_>, p: Plan)
+    requires { (p.edges ≤ EDGES) × Counts w.old.at (each edge_line (lines p).edges) }
+    ensures { w.new ≡ put_on w.old (each edge_line (lines p).edges) }
 {
     let at = w.at;
-    let end = put_edges(&mut *w.out, at, p);
-    Writer {
-        out: w.out,
-        at: end,
-    }
+    w.at = put_edges(&mut *w.out, at, p);
 }
 
 // Puts the text of a plan that passes refusals 2 to 9, through the line writer.
@@ -84,8 +64,11 @@ pub(crate) fn put_plan(out: &mut [u8], p: Plan) -> usize
     requires { plan_refusal (lines p) ≡ nothing }
     ensures { Put out.old out.new 0 result (print (lines p)) }
 {
-    filled(edges(
-        conditions(processes(slots(plan_line(start(out, 0), p), p), p), p),
-        p,
-    ))
+    let mut w = start(out, 0);
+    plan_line(&mut w, p);
+    slots(&mut w, p);
+    processes(&mut w, p);
+    conditions(&mut w, p);
+    edges(&mut w, p);
+    filled(w)
 }

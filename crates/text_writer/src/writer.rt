@@ -10,7 +10,7 @@ use plan::Plan;
 use plan_refusals::{Refusal, refuse};
 
 // What the plan writer answers: how many bytes it wrote, or the number of a refusal.
-#[derive(Drop)]
+#[derive(Clone, Copy)]
 pub enum Written {
     Wrote(usize),
     Refused(u32),

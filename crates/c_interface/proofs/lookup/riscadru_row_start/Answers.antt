@@ -1,0 +1,6 @@
+-- `c_interface::lookup::riscadru_row_start` meets its contract, by that of the row query over bytes.
+
+use Rattle.c_interface.proofs.lookup.riscadru_row_start.Goals as goal
+
+pub returns : goal.returns
+returns c = c.row_start.ensures

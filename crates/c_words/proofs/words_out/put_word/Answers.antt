@@ -1,0 +1,17 @@
+-- `c_words::put_word` meets its contract: four stores are a run of stores.
+use native.Mathlib.Omega.{arith}
+use lib.ListN.{length-set}
+use Rattle.c_words.proofs.Writing.{store_word}
+use Rattle.c_words.proofs.words_out.put_word.Goals as goal
+
+pub bounds-out-at-2 : goal.bounds-out-at-2
+bounds-out-at-2 c = simp length-set (omega arith)
+
+pub bounds-out-at-3 : goal.bounds-out-at-3
+bounds-out-at-3 c = simp length-set (omega arith)
+
+pub bounds-out-at-4 : goal.bounds-out-at-4
+bounds-out-at-4 c = simp length-set (omega arith)
+
+pub returns : goal.returns
+returns c = store_word c.args.out.now c.args.at c.args.word

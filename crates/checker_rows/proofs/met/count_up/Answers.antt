@@ -1,0 +1,9 @@
+-- `checker_rows::count_up` meets its contract.
+use borrow.Author.Tests.{eq-eqb, ne_eqb}
+use Rattle.checker_rows.proofs.met.count_up.Goals as goal
+
+pub returns-then-n-ne0 : goal.returns-then-n-ne0
+returns-then-n-ne0 c = rw (ne_eqb _ _ c.if-n-ne0.true)
+
+pub returns : goal.returns
+returns c = rw (eq-eqb _ _ c.if-n-ne0.false)

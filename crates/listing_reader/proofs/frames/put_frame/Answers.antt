@@ -1,0 +1,12 @@
+-- `put_frame` stores the three words one after another.
+use Prim.Native.Nat.{◌+◌, suc}
+use mathlib.Core.Path.{◌≡◌}
+use native.Mathlib.Omega.{arith}
+use Rattle.listing_reader.proofs.frames.put_frame.Goals as goal
+
+pub returns : goal.returns
+returns c =
+    let i = c.args.at in
+    let one : i + 1 ≡ suc i = omega arith in
+    let two : i + 2 ≡ suc (suc i) = omega arith in
+    rw (one, two)

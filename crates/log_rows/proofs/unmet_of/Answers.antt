@@ -1,0 +1,8 @@
+-- `log_rows::unmet_of` meets its contract.
+use Rattle.log_rows.specs.Rows.{rows_of}
+use Rattle.lists.proofs.Cutting.{at_field}
+use Rattle.log_rows.proofs.unmet_of.Goals as goal
+
+pub returns : goal.returns
+unfolding rows_of
+returns c = at_field c.args.rows.now 64 128 c.args.e c.requires

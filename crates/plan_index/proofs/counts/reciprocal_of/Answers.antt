@@ -1,0 +1,8 @@
+-- `plan_index::reciprocal_of` meets its contract.
+use mathlib.Core.Path.{refl}
+use Rattle.plan_index.specs.Index.{laid}
+use Rattle.plan_index.proofs.counts.reciprocal_of.Goals as goal
+
+pub returns : goal.returns
+unfolding laid
+returns c = refl

@@ -1,0 +1,8 @@
+-- `plan_index::kind_of` meets its contract.
+use Rattle.plan_index.proofs.Places.{field_at}
+use Rattle.plan_index.specs.Index.{laid}
+use Rattle.plan_index.proofs.fields.kind_of.Goals as goal
+
+pub returns : goal.returns
+unfolding laid
+returns c = field_at c.args.index.now 712 128 c.args.e c.requires

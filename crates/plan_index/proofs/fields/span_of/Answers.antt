@@ -1,0 +1,9 @@
+-- `plan_index::span_of` meets its contract.
+use native.Mathlib.Omega.{arith}
+use Rattle.plan_index.proofs.Places.{field_at}
+use Rattle.plan_index.specs.Index.{laid}
+use Rattle.plan_index.proofs.fields.span_of.Goals as goal
+
+pub returns : goal.returns
+unfolding laid
+returns c = let e = field_at c.args.index.now 1585 198 c.args.row c.requires.0 in (e, omega (arith, e, c.requires.1.span_most c.args.row))

@@ -1,2 +1,0 @@
--- Laws of reading standard input: Within (how many bytes were read).
-pub mod Within
