@@ -1,6 +1,7 @@
 //! Copies of the repository in which the command `./riscadru` is tried. A copy has the command with what
-//! it reads, six small crates, the programs and the archive as if just built, and a program in the place
-//! of `rt`, so that no test proves or builds anything.
+//! it reads, seven small crates, the programs and the archive as if just built, and a program in the place
+//! of `rt`, so that no test proves or builds anything. The copies stand outside the repository, where
+//! `rt` would take their crates for those of the repository.
 
 use std::fs::{self, File, Permissions};
 use std::io::{ErrorKind, Write};
@@ -14,15 +15,16 @@ use crate::linking::root;
 /// The programs.
 pub const PROGRAMS: [&str; 2] = ["riscadru_plan", "riscadru_check"];
 
-/// The crates of a copy: a program rests on three, the archive on four.
+/// The crates of a copy: a program is the third, the archive the fifth of those that it rests on.
 const CRATES: &str = "\
 # level 0
 lists:
 model: lists # the definitions
-riscadru_plan: model io
-riscadru_check: model io
+riscadru_plan: model
+riscadru_check: model
 c_text: model
 c_interface: c_text model lists
+c_interface_c staticlib: c_interface c_text model
 ";
 
 /// An `rt` that is not to be called.
@@ -64,16 +66,14 @@ pub struct Tree {
 impl Tree {
     /// A new copy, with everything built and an `rt` that is not to be called.
     pub fn new(name: &str) -> Self {
-        let folder = Path::new(env!("CARGO_MANIFEST_DIR")).join("../target/tmp/trees");
-        fs::create_dir_all(&folder).expect("a folder for the copies");
-        let folder = folder.canonicalize().expect("its name");
+        let folder = std::env::temp_dir();
+        let folder = folder.canonicalize().expect("a folder for the copies");
         let tree = Tree {
-            root: folder.join(format!("tree {name}")),
+            root: folder.join(format!("riscadru-{} tree {name}", std::process::id())),
         };
         let _ = fs::remove_dir_all(&tree.root);
         for file in [
             "riscadru",
-            ".ci/in-memory",
             "docs/REFUSALS.md",
             "draw/draw.awk",
             "examples/s.plan",
@@ -88,7 +88,7 @@ impl Tree {
         }
         tree.write("crates.txt", CRATES);
         for line in CRATES.lines().skip(1) {
-            let name = line.split(':').next().unwrap();
+            let name = line.split([' ', ':']).next().unwrap();
             tree.write(&format!("crates/{name}/src/lib.rt"), "// a source\n");
         }
         fs::create_dir_all(tree.root.join("tmp")).expect("a folder for temporary files");
@@ -96,7 +96,6 @@ impl Tree {
         for program in PROGRAMS {
             let built = format!("target/bin/{program}");
             tree.copy(&root().join(&built), &built);
-            tree.write(&format!("target/stamp/{program}"), "a stamp\n");
         }
         let archive = root().join("target/staticlib/libc_interface.a");
         tree.copy(&archive, "target/riscadru/libriscadru.a");
@@ -194,6 +193,13 @@ impl Tree {
             printed: output.stdout,
             said: String::from_utf8(output.stderr).expect("text"),
         }
+    }
+}
+
+impl Drop for Tree {
+    /// Removes the copy.
+    fn drop(&mut self) {
+        let _ = fs::remove_dir_all(&self.root);
     }
 }
 

@@ -12,59 +12,61 @@ use ours::linking::root;
 use ours::tree::{started, Ended, Tree, PROGRAMS};
 use suite::S_LISTING;
 
-/// An `rt` that says what the real one says, and leaves the programs and an archive. It keeps its calls
-/// in the file `calls`.
+/// An `rt` that says what the real one says of what it proves anew, and leaves a program or an archive in
+/// the folder out of the crate that it is called in. It keeps its calls in the file `calls`.
 const RT: &str = r#"
-echo "$*" >>calls
+crate=${PWD##*/}
+cd ../..
+echo "$* $crate" >>calls
 prove() {
+    echo "rt: chose --jobs 2 for $1"
     echo "fn $1::f: proved"
-    echo "library std: modules loaded=0 checked=0"
-    echo "rt: $1 proved ($2)"
+    echo "statements std: modules loaded=21 checked=0"
+    echo "crate $1: modules loaded=10 checked=$2"
+    echo "logic=proved functions=1"
 }
+prove lists 0 >&2
+prove model 33 >&2
 case $1 in
-check)
-    prove lists 'unchanged since it was last proved'
-    prove model '2 s'
-    case " $* " in
-    *' riscadru_'*)
-        prove $2 '1 s'
-        mkdir -p target/bin target/stamp
-        cp built/$2 target/bin/$2.tmp-1
-        mv target/bin/$2.tmp-1 target/bin/$2
-        echo stamp >target/stamp/$2
-        echo "rt: $2 ran, and wrote what its file 'stdout' has (0 s)"
-        ;;
-    *' c_text '*) prove c_text '1 s' ;;
-    esac
+run)
+    prove $crate 54 >&2
+    mkdir -p crates/$crate/out
+    cp built/$crate crates/$crate/out/$crate
+    echo "rt: running out/$crate; to give it other input, run that file yourself" >&2
+    crates/$crate/out/$crate
     ;;
-staticlib)
-    prove lists 'unchanged since it was last proved'
-    prove model 'unchanged since it was last proved'
-    prove c_text 'unchanged since it was last proved'
-    mkdir -p target/staticlib
-    echo archive >target/staticlib/lib$2.a
-    echo "rt: target/staticlib/lib$2.a has the functions of $2"
+lib)
+    prove c_text 33
+    prove c_interface 33
+    prove $crate 34
+    mkdir -p crates/$crate/out
+    echo archive >crates/$crate/out/lib$crate.a
     ;;
 esac
 "#;
 
 /// An `rt` that proves a crate and refuses the next.
 const REFUSING_RT: &str = r#"
+exec >&2
 echo 'fn lists::f: proved'
-echo 'rt: lists proved (1 s)'
-echo 'crates/model/src/lib.rt:1:1: error: a fact that fails'
-echo 'rt: model NOT PROVED (exit 1, 1 s)'
-echo half >target/bin/riscadru_plan.tmp-1
+echo 'crate lists: modules loaded=0 checked=33'
+echo 'logic=proved functions=1'
+echo './src/lib.rt:1:1: error: a fact that fails'
+echo 'logic=not-proved'
+echo 'rt: the library model did not build, so nothing above it was checked' >&2
+echo half >../../target/bin/riscadru_plan.tmp-1
 exit 1
 "#;
 
-/// An `rt` that is interrupted: it has begun to write, and one of its processes, started as the real
-/// one starts its provers, goes on for long.
+/// An `rt` that is interrupted: it has proved a crate, and one of its processes, started as the real one
+/// starts its provers, goes on for long. Something half written lies there, too.
 const SLOW_RT: &str = r#"
+cd ../..
 mkdir -p target/bin target/staticlib
 echo half >target/bin/riscadru_plan.tmp-1
 echo half >target/staticlib/libc_interface.a.tmp-1
-echo 'rt: lists proved (1 s)'
+echo 'crate lists: modules loaded=0 checked=33'
+echo 'logic=proved functions=1'
 sleep 600 &
 echo $! >sleeper
 wait
@@ -76,6 +78,10 @@ fn unbuilt(name: &str, rt: &str) -> Tree {
     for program in PROGRAMS {
         let from = root().join("target/bin").join(program);
         tree.copy(&from, &format!("built/{program}"));
+        for file in ["stdin", "stdout"] {
+            let file = format!("crates/{program}/{file}");
+            tree.copy(&root().join(&file), &file);
+        }
     }
     fs::remove_dir_all(tree.root.join("target")).expect("what is built");
     tree.set_rt(rt);
@@ -100,7 +106,7 @@ fn planned(ended: Ended) -> String {
 fn builds(tree: &Tree) -> String {
     let before = calls(tree).len();
     let said = planned(tree.run(&["plan", "examples/s.plan"]));
-    assert_eq!(calls(tree)[before..], ["check riscadru_plan"]);
+    assert_eq!(calls(tree)[before..], ["run riscadru_plan"]);
     assert_eq!(planned(tree.run(&["plan", "examples/s.plan"])), "");
     assert_eq!(calls(tree).len(), before + 1);
     said
@@ -119,8 +125,14 @@ fn what_is_missing_or_older_than_a_source_is_built() {
     let text = tree.read("crates.txt").expect("a file");
     fs::write(tree.root.join("crates.txt"), text).expect("a file");
     builds(&tree);
-    // proved and built, but not yet run
-    fs::remove_file(tree.root.join("target/stamp/riscadru_plan")).expect("a file");
+    // proved and built, but it does not print what it must
+    let wanted = tree.read("crates/riscadru_plan/stdout").expect("a file");
+    tree.write("crates/riscadru_plan/stdout", "(delay 35)\n");
+    let ended = tree.run(&["plan", "examples/s.plan"]);
+    assert_eq!((ended.status, &ended.printed[..]), (2, &b""[..]));
+    assert!(ended.said.contains("stdout out/stdout differ"), "{ended:?}");
+    let file = tree.root.join("crates/riscadru_plan/stdout");
+    fs::write(file, wanted).expect("a file");
     builds(&tree);
     fs::remove_file(tree.root.join("target/bin/riscadru_plan")).expect("a file");
     builds(&tree);
@@ -128,10 +140,9 @@ fn what_is_missing_or_older_than_a_source_is_built() {
     let before = calls(&tree);
     tree.write("README.md", "");
     tree.write("crates/model/must-fail/x.edit", "");
-    builds(&tree);
-    tree.write("crates/model/must-fail/x.edit", "file:\n");
+    tree.write("crates/model/out/x", "");
     assert_eq!(planned(tree.run(&["plan", "examples/s.plan"])), "");
-    assert_eq!(calls(&tree).len(), before.len() + 1);
+    assert_eq!(calls(&tree), before);
 }
 
 /// Each program is built for its own command.
@@ -146,19 +157,19 @@ fn the_checking_program_is_built() {
         "{ended:?}"
     );
     assert!(ended.said.contains("[3/3] riscadru_check\n"), "{ended:?}");
-    assert_eq!(calls(&tree), ["check riscadru_check"]);
+    assert_eq!(calls(&tree), ["run riscadru_check"]);
     tree.run(&words).done(b"(accepted)\n");
     assert_eq!(calls(&tree).len(), 1);
     builds(&tree);
     tree.run(&words).done(b"(accepted)\n");
     tree.write("crates/model/src/lib.rt", "// another source\n");
     assert_eq!(tree.run(&words).status, 0);
-    assert_eq!(calls(&tree)[2..], ["check riscadru_check"]);
+    assert_eq!(calls(&tree)[2..], ["run riscadru_check"]);
 }
 
 #[test]
 fn a_source_that_is_changed_during_the_build_is_newer() {
-    let change = "echo '// changed' >>crates/lists/src/lib.rt\n";
+    let change = "echo '// changed' >>../lists/src/lib.rt\n";
     let tree = unbuilt("meanwhile", &format!("{change}{RT}"));
     planned(tree.run(&["plan", "examples/s.plan"]));
     tree.run(&["build"]);
@@ -166,7 +177,7 @@ fn a_source_that_is_changed_during_the_build_is_newer() {
     builds(&tree);
     let before = calls(&tree).len();
     tree.run(&["build"]);
-    assert_eq!(calls(&tree).len(), before + 2);
+    assert_eq!(calls(&tree).len(), before + 1);
 }
 
 #[test]
@@ -191,10 +202,7 @@ fn progress_is_told() {
     let lines: Vec<&str> = said.lines().collect();
     let begins = "riscadru: proving riscadru_plan and what it rests on, 3 crates; ";
     assert_eq!(lines.len(), 5, "{said}");
-    assert_eq!(
-        lines[0],
-        format!("{begins}the first time may take some minutes")
-    );
+    assert_eq!(lines[0], format!("{begins}the first time may take an hour"));
     let told = ["[1/3] lists", "[2/3] model", "[3/3] riscadru_plan"];
     assert_eq!(lines[1..4], told);
     assert!(lines[4].starts_with("riscadru: riscadru_plan is proved, in "));
@@ -222,10 +230,7 @@ fn the_archive_is_built() {
         (ended.status, &ended.printed[..]),
         (0, &b"-Ltarget/riscadru -lriscadru\n"[..])
     );
-    assert_eq!(
-        calls(&tree),
-        ["check c_text model lists", "staticlib c_interface"]
-    );
+    assert_eq!(calls(&tree), ["lib c_interface_c"]);
     let told: Vec<&str> = ended
         .said
         .lines()
@@ -234,22 +239,23 @@ fn the_archive_is_built() {
     assert_eq!(
         told,
         [
-            "[1/4] lists",
-            "[2/4] model",
-            "[3/4] c_text",
-            "[4/4] c_interface"
+            "[1/5] lists",
+            "[2/5] model",
+            "[3/5] c_text",
+            "[4/5] c_interface",
+            "[5/5] c_interface_c"
         ]
     );
-    assert_eq!(
-        tree.read("target/riscadru/libriscadru.a").unwrap(),
-        b"archive\n"
-    );
+    for archive in ["riscadru/libriscadru.a", "staticlib/libc_interface.a"] {
+        let archive = format!("target/{archive}");
+        assert_eq!(tree.read(&archive).unwrap(), b"archive\n");
+    }
     assert_eq!(
         tree.read("target/riscadru/riscadru.h"),
         tree.read("include/riscadru.h")
     );
     assert_eq!(tree.run(&["build"]).printed, ended.printed);
-    assert_eq!(calls(&tree).len(), 2);
+    assert_eq!(calls(&tree).len(), 1);
     // the header alone is newer
     tree.write("include/riscadru.h", "/* changed */\n");
     assert_eq!(tree.run(&["build"]).status, 0);
@@ -257,7 +263,7 @@ fn the_archive_is_built() {
         tree.read("target/riscadru/riscadru.h").unwrap(),
         b"/* changed */\n"
     );
-    assert_eq!(calls(&tree).len(), 2);
+    assert_eq!(calls(&tree).len(), 1);
 }
 
 #[test]
@@ -266,10 +272,9 @@ fn install_builds_what_it_needs() {
     let ended = tree.run(&["install", "prefix"]);
     assert_eq!(ended.status, 0, "{ended:?}");
     let wanted = [
-        "check riscadru_plan",
-        "check riscadru_check",
-        "check c_text model lists",
-        "staticlib c_interface",
+        "run riscadru_plan",
+        "run riscadru_check",
+        "lib c_interface_c",
     ];
     assert_eq!(calls(&tree), wanted);
     assert_eq!(tree.read("prefix/lib/libriscadru.a").unwrap(), b"archive\n");
@@ -313,7 +318,7 @@ fn a_failed_build_has_status_2() {
         assert!(
             ended
                 .said
-                .contains("error: a fact that fails\nrt: model NOT PROVED"),
+                .contains("error: a fact that fails\nlogic=not-proved\nrt: the library model"),
             "{ended:?}"
         );
         assert!(!ended.said.contains("fn lists"), "{ended:?}");
