@@ -8,10 +8,8 @@ pub fn copy_at(from: &[u32], to: &mut [u32], at: usize)
     requires { at + length from.now ≤ length to.old }
     ensures { to.new ≡ sets to.old at from.now }
 {
-    let mut i: usize = 0;
-    while i < from.len() {
+    for i in 0..from.len() {
         to[at + i] = from[i];
-        i += 1;
     }
 }
 

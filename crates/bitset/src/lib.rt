@@ -84,10 +84,8 @@ pub fn combinations_of(conditions: usize) -> u32
     ensures { (result ≡ 2 ^ conditions) × (result ≤ 64) }
 {
     let mut n: u32 = 1;
-    let mut k: usize = 0;
-    while k < conditions {
+    for k in 0..conditions {
         n = n * 2;
-        k += 1;
     }
     n
 }

@@ -57,8 +57,7 @@ fn find<'a>(
     ensures { Placed line slot.now bytes.now slots node result }
 {
     let mut sum: u32 = 0;
-    let mut i: usize = 0;
-    while i < slots {
+    for i in 0..slots {
         let b = bytes[i];
         let next = sum + slot_ticks(line, b);
         if slot[i] == node {
@@ -66,7 +65,6 @@ fn find<'a>(
             return Place { offset, bytes: b };
         }
         sum = next;
-        i += 1;
     }
     Place {
         offset: sum,
@@ -87,14 +85,12 @@ fn of_slots<'a>(
     let mut offset = [0u32; NODES];
     let mut ticks = [0u32; NODES];
     let mut room = [0u32; NODES];
-    let mut n: usize = 0;
-    while n < slots {
+    for n in 0..slots {
         let s = find(slot, bytes, slots, line, n as u32);
         let b = s.bytes;
         offset[n] = s.offset;
         ticks[n] = slot_ticks(line, b);
         room[n] = b;
-        n += 1;
     }
     let all = find(slot, bytes, slots, line, NONODE);
     let round = all.offset;

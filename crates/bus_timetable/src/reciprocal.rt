@@ -35,10 +35,8 @@ pub(crate) fn find_reciprocal(round: u32) -> u32
     ensures { result ≡ reciprocal_of round }
 {
     let mut s = Share { whole: 0, rest: 0 };
-    let mut i: u32 = 0;
-    while i < 31 {
+    for i in 0u32..31 {
         s = doubled(round, s);
-        i += 1;
     }
     s.whole
 }

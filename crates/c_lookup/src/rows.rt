@@ -12,12 +12,10 @@ fn entries_before(bytes: &[u8], row: u32) -> usize
     ensures upper_bound { result ≤ length (words_of bytes.now) / 5 }
 {
     let n = how_many(bytes) / 5;
-    let mut i: usize = 0;
-    while i < n {
+    for i in 0..n {
         if word_at(bytes, i * 5) == row {
             return i;
         }
-        i += 1;
     }
     n
 }
@@ -29,12 +27,10 @@ fn entries_from(bytes: &[u8], first: usize, row: u32) -> usize
     ensures result_in_bounds { first + result ≤ length (words_of bytes.now) / 5 }
 {
     let n = how_many(bytes) / 5;
-    let mut i: usize = first;
-    while i < n {
+    for i in first..n {
         if word_at(bytes, i * 5) != row {
             return i - first;
         }
-        i += 1;
     }
     n - first
 }

@@ -24,8 +24,7 @@ pub(crate) fn first_fitting(
         (drop first (entries_of (words_of bytes.now))) first) }
 {
     let n = how_many(bytes) / 5;
-    let mut i = first;
-    while i < n {
+    for i in first..n {
         let at = i * 5;
         if word_at(bytes, at + 3) == tick {
             let five = entry_of(bytes, at);
@@ -33,7 +32,6 @@ pub(crate) fn first_fitting(
                 return Found::Entry(i);
             }
         }
-        i += 1;
     }
     Found::None
 }

@@ -41,11 +41,9 @@ pub fn read_words<'a>(bytes: &'a [u8], from: usize, out: &mut [u32])
     requires { from + length out.old ≤ length (words_of bytes.now) }
     ensures { out.new ≡ take (length out.old) (drop from (words_of bytes.now)) }
 {
-    let mut i: usize = 0;
-    while i < out.len() {
+    for i in 0..out.len() {
         let at = from + i;
         out[i] = word_at(bytes, at);
-        i += 1;
     }
 }
 

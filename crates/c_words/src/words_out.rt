@@ -20,10 +20,8 @@ pub fn put_words<'a>(words: &'a [u32], n: usize, out: &mut [u8])
     requires { (n ≤ length words.now) × (4 * n ≤ length out.old) }
     ensures { out.new ≡ front (bytes_of (take n words.now)) out.old }
 {
-    let mut i: usize = 0;
-    while i < n {
+    for i in 0..n {
         put_word(out, i * 4, words[i]);
-        i += 1;
     }
 }
 
@@ -62,9 +60,7 @@ pub fn put_some<'a>(words: &'a [u32], out: &mut [u8])
         out.old }
 {
     let end = within(words, out.len());
-    let mut i: usize = 0;
-    while i < end {
+    for i in 0..end {
         out[i] = byte_at(words, i);
-        i += 1;
     }
 }

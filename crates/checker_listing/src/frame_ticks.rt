@@ -9,12 +9,10 @@ pub(crate) fn ticks_ascend(frames: &[u32]) -> bool
     ensures { Tells result (Ascends frames.now) }
 {
     let count = frames.len() / 3;
-    let mut k: usize = 1;
-    while k < count {
+    for k in 1..count {
         if frames[3 * k] <= frames[3 * k - 3] {
             return false;
         }
-        k += 1;
     }
     true
 }

@@ -50,10 +50,8 @@ fn rows_due(index: &Index, rows: &Rows) -> [u32; ROWS]
 {
     let mut due = no_rows();
     let end = rows_of(index);
-    let mut r: usize = 0;
-    while r < end {
+    for r in 0..end {
         due[r] = row_due(index, rows, r);
-        r += 1;
     }
     due
 }
@@ -63,10 +61,8 @@ fn put_all_comes(rows: &mut [u32], clock: u32)
     requires { 192 + ROWS ≤ length rows.old }
     ensures { rows_of rows.new ≡ with_comes (replicate ROWS clock) (rows_of rows.old) }
 {
-    let mut r: usize = 0;
-    while r < ROWS {
+    for r in 0..ROWS {
         rows[COMES_AT + r] = clock;
-        r += 1;
     }
 }
 

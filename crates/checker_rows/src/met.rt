@@ -82,12 +82,10 @@ pub fn miscounts(count: &[u32; ROWS], due: &[u32; ROWS], rows: usize) -> bool
     requires { rows ≤ ROWS }
     ensures { result ≡ miscounted_by count.now due.now rows }
 {
-    let mut r: usize = 0;
-    while r < rows {
+    for r in 0..rows {
         if count[r] != due[r] {
             return true;
         }
-        r += 1;
     }
     false
 }

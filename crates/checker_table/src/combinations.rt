@@ -42,12 +42,10 @@ pub(crate) fn try_all(index: &Index, table: &[u32], combinations: u32) -> Found
 {
     let mut first: u32 = 20;
     let mut delay: u32 = 0;
-    let mut c: u32 = 0;
-    while c < combinations {
+    for c in 0u32..combinations {
         let found = try_combination(index, table, c);
         first = lesser(first, found.first);
         delay = greater(delay, found.delay);
-        c += 1;
     }
     Found { first, delay }
 }

@@ -64,12 +64,10 @@ pub(crate) fn first_fitting(
         (drop first (entries_of table.now)) first) }
 {
     let n = table.len() / 5;
-    let mut i = first;
-    while i < n {
+    for i in first..n {
         if entry_fits(table, i, &b.node, b.rows, node, tick, heard, told) {
             return Found::Entry(i);
         }
-        i += 1;
     }
     Found::None
 }

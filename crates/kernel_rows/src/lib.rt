@@ -13,12 +13,10 @@ fn entries_before(table: &[u32], row: u32) -> usize
     ensures upper_bound { result ≤ length table.now / 5 }
 {
     let n = table.len() / 5;
-    let mut i: usize = 0;
-    while i < n {
+    for i in 0..n {
         if table[i * 5] == row {
             return i;
         }
-        i += 1;
     }
     n
 }
@@ -30,12 +28,10 @@ fn entries_from(table: &[u32], first: usize, row: u32) -> usize
     ensures result_in_bounds { first + result ≤ length table.now / 5 }
 {
     let n = table.len() / 5;
-    let mut i = first;
-    while i < n {
+    for i in first..n {
         if table[i * 5] != row {
             return i - first;
         }
-        i += 1;
     }
     n - first
 }

@@ -21,10 +21,8 @@ fn part_of<'a>(word: &'a [u8], from: usize, part: &mut [u8])
     requires { from + length part.old ≤ length word.now }
     ensures { part.new ≡ take (length part.old) (drop from word.now) }
 {
-    let mut i: usize = 0;
-    while i < part.len() {
+    for i in 0..part.len() {
         part[i] = word[from + i];
-        i += 1;
     }
 }
 

@@ -207,10 +207,8 @@ fn passed_room(room: usize, passed: &[u32]) -> usize
 {
     let n = passed.len();
     let mut left = room;
-    let mut i: usize = 0;
-    while i < n {
+    for i in 0..n {
         left = count_room(left, i as u32, passed[i]);
-        i += 1;
     }
     left
 }

@@ -21,14 +21,12 @@ pub(crate) fn read_passed(text: &[u8], at: usize, slots: u32, passed: &mut [u32;
     ensures { PassedRead text.now at slots passed.old passed.new result }
 {
     let mut next = at;
-    let mut node: u32 = 0;
-    while node < slots {
+    for node in 0u32..slots {
         let NumberAt::Got(count, i) = count_line(text, next, node) else {
             return PassedAt::No;
         };
         passed[node as usize] = count;
         next = i;
-        node += 1;
     }
     PassedAt::Got(next)
 }

@@ -72,11 +72,9 @@ pub(crate) fn column(text: &[u8], at: usize, conditions: u32) -> ColumnAt
         at: first,
     };
     let mut bit: u32 = 1;
-    let mut k: u32 = 0;
-    while k < conditions {
+    for k in 0u32..conditions {
         s = step(text, s, k, bit);
         bit = bit * 2;
-        k += 1;
     }
     let i = s.at;
     let WordAt::Got(end) = word(text, i, b")") else {

@@ -70,12 +70,10 @@ fn all_delivered(index: &Index, rows: &Rows, a: usize, b: usize, u: u32) -> bool
     ensures { result ≡ all (has_delivered (laid index.now) (rows_of rows.now) u)
         (edges_at (laid index.now) a b) }
 {
-    let mut j = a;
-    while j < b {
+    for j in a..b {
         if !delivered(index, rows, into_of(index, j), u) {
             return false;
         }
-        j += 1;
     }
     true
 }
@@ -86,9 +84,8 @@ fn any_delivered(index: &Index, rows: &Rows, a: usize, b: usize, u: u32) -> bool
     ensures { result ≡ settles (laid index.now) (rows_of rows.now) u
         (edges_at (laid index.now) a b) }
 {
-    let mut j = a;
     let mut some = false;
-    while j < b {
+    for j in a..b {
         let e = into_of(index, j);
         if delivered(index, rows, e, u) {
             some = true;
@@ -97,7 +94,6 @@ fn any_delivered(index: &Index, rows: &Rows, a: usize, b: usize, u: u32) -> bool
                 return false;
             }
         }
-        j += 1;
     }
     some
 }

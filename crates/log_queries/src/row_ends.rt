@@ -50,10 +50,8 @@ pub fn last_end(rows: &Rows, processes: usize) -> u32
     ensures { result ≡ last_end_by (rows_of rows.now).comes processes }
 {
     let mut most: u32 = 0;
-    let mut i: usize = 0;
-    while i < processes {
+    for i in 0..processes {
         most = greater(most, comes_of(rows, i));
-        i += 1;
     }
     if most == 0 {
         return 0;

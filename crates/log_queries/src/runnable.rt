@@ -17,12 +17,10 @@ fn all_carry(index: &Index, rows: &Rows, a: usize, b: usize, u: u32) -> bool
     ensures { result ≡ all (may_carry (laid index.now) (rows_of rows.now) u)
         (edges_at (laid index.now) a b) }
 {
-    let mut j = a;
-    while j < b {
+    for j in a..b {
         if never(index, rows, into_of(index, j), u) {
             return false;
         }
-        j += 1;
     }
     true
 }
@@ -33,12 +31,10 @@ fn any_carry(index: &Index, rows: &Rows, a: usize, b: usize, u: u32) -> bool
     ensures { result ≡ any (may_carry (laid index.now) (rows_of rows.now) u)
         (edges_at (laid index.now) a b) }
 {
-    let mut j = a;
-    while j < b {
+    for j in a..b {
         if !never(index, rows, into_of(index, j), u) {
             return true;
         }
-        j += 1;
     }
     false
 }
@@ -61,10 +57,8 @@ fn clear_run(rows: &mut [u32])
     requires { PROCESSES ≤ length rows.old }
     ensures { rows_of rows.new ≡ with_run (replicate 64 0) (rows_of rows.old) }
 {
-    let mut i: usize = 0;
-    while i < PROCESSES {
+    for i in 0..PROCESSES {
         rows[RUN_AT + i] = 0;
-        i += 1;
     }
 }
 
@@ -76,11 +70,9 @@ pub fn may_run(index: &Index, u: u32, rows: &mut Rows)
 {
     clear_run(rows);
     let processes = processes_of(index);
-    let mut i: usize = 0;
-    while i < processes {
+    for i in 0..processes {
         let x = number(runs(index, rows, i, u));
         put_run(rows, i, x);
-        i += 1;
     }
 }
 

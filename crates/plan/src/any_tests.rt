@@ -12,12 +12,10 @@ pub fn any_outside(xs: &[u32], n: usize, lo: u32, hi: u32) -> bool
     requires { n ≤ length xs.now }
     ensures { result ≡ any (outside_at xs.now lo hi) (below n) }
 {
-    let mut i: usize = 0;
-    while i < n {
+    for i in 0..n {
         if is_outside(xs[i], lo, hi) {
             return true;
         }
-        i += 1;
     }
     false
 }
@@ -27,12 +25,10 @@ pub fn any_not_below(xs: &[u32], n: usize, bound: usize) -> bool
     requires { n ≤ length xs.now }
     ensures { result ≡ any (not_below_at xs.now bound) (below n) }
 {
-    let mut i: usize = 0;
-    while i < n {
+    for i in 0..n {
         if bound <= wide(xs[i]) {
             return true;
         }
-        i += 1;
     }
     false
 }
@@ -52,14 +48,12 @@ pub fn any_repeat<'a>(high: &'a [u32], low: &'a [u32], n: usize) -> bool
     ensures { result ≡ any (earlier (key high.now low.now)) (below n) }
 {
     let mut seen = no_marks();
-    let mut i: usize = 0;
-    while i < n {
+    for i in 0..n {
         let k = wide(high[i]) * 64 + wide(low[i]);
         if seen[k] == 1 {
             return true;
         }
         seen[k] = 1;
-        i += 1;
     }
     false
 }
@@ -69,12 +63,10 @@ fn stands_before(xs: &[u32], i: usize) -> bool
     requires { i < length xs.now }
     ensures { result ≡ earlier (at xs.now) i }
 {
-    let mut j: usize = 0;
-    while j < i {
+    for j in 0..i {
         if xs[j] == xs[i] {
             return true;
         }
-        j += 1;
     }
     false
 }
@@ -84,12 +76,10 @@ pub fn any_twice(xs: &[u32], n: usize) -> bool
     requires { n ≤ length xs.now }
     ensures { result ≡ any (earlier (at xs.now)) (below n) }
 {
-    let mut i: usize = 0;
-    while i < n {
+    for i in 0..n {
         if stands_before(xs, i) {
             return true;
         }
-        i += 1;
     }
     false
 }
@@ -100,12 +90,10 @@ pub fn any_unordered<'a>(from: &'a [u32], to: &'a [u32], n: usize) -> bool
     requires fact_2 { n ≤ length to.now }
     ensures { result ≡ any (unordered_at from.now to.now) (below n) }
 {
-    let mut i: usize = 0;
-    while i < n {
+    for i in 0..n {
         if to[i] <= from[i] {
             return true;
         }
-        i += 1;
     }
     false
 }

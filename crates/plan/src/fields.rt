@@ -78,12 +78,10 @@ fn slot_bytes(s: SlotTable, slots: usize, node: u32) -> u32
     requires { slots ≤ NODES }
     ensures { result ≡ slot_bytes s.node s.bytes node (below slots) }
 {
-    let mut i: usize = 0;
-    while i < slots {
+    for i in 0..slots {
         if s.node[i] == node {
             return s.bytes[i];
         }
-        i += 1;
     }
     0
 }

@@ -68,12 +68,10 @@ pub fn slot_table(p: Plan) -> SlotTable
     let n = lesser_usize(p.slots, SLOTS);
     let mut node = [0u32; SLOTS];
     let mut bytes = [0u32; SLOTS];
-    let mut i: usize = 0;
-    while i < n {
+    for i in 0..n {
         let s = p.slot[i];
         node[i] = s.node;
         bytes[i] = s.bytes;
-        i += 1;
     }
     SlotTable { node, bytes }
 }
@@ -85,14 +83,12 @@ pub fn process_table(p: Plan) -> ProcessTable
     let mut node = [0u32; PROCESSES];
     let mut ticks = [0u32; PROCESSES];
     let mut any = [0u32; PROCESSES];
-    let mut i: usize = 0;
-    while i < n {
+    for i in 0..n {
         let q = p.process[i];
         let w = q.waits;
         node[i] = q.node;
         ticks[i] = q.ticks;
         any[i] = any_number(w);
-        i += 1;
     }
     ProcessTable { node, ticks, any }
 }
@@ -106,8 +102,7 @@ pub fn edge_table(p: Plan) -> EdgeTable
     let mut bytes = [0u32; EDGES];
     let mut kind = [0u32; EDGES];
     let mut condition = [0u32; EDGES];
-    let mut i: usize = 0;
-    while i < n {
+    for i in 0..n {
         let e = p.edge[i];
         let w = e.when;
         from[i] = e.from;
@@ -115,7 +110,6 @@ pub fn edge_table(p: Plan) -> EdgeTable
         bytes[i] = e.bytes;
         kind[i] = kind_number(w);
         condition[i] = condition_number(w);
-        i += 1;
     }
     EdgeTable {
         from,

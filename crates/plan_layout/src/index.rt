@@ -24,10 +24,8 @@ fn deciders(p: Plan) -> [u32; CONDITIONS]
     ensures { result ≡ fill CONDITIONS (at p.condition) p.conditions }
 {
     let mut decider = [0u32; CONDITIONS];
-    let mut k: usize = 0;
-    while k < p.conditions {
+    for k in 0..p.conditions {
         decider[k] = p.condition[k];
-        k += 1;
     }
     decider
 }

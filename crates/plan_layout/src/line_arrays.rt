@@ -33,10 +33,8 @@ pub(crate) fn counted_as_any(
     ensures { result ≡ as_any_by_process any first processes }
 {
     let mut asany = no_processes();
-    let mut i: usize = 0;
-    while i < processes {
+    for i in 0..processes {
         asany[i] = counts_as_any(any[i], first[i], first[i + 1]);
-        i += 1;
     }
     asany
 }
@@ -59,11 +57,9 @@ pub(crate) fn known_rows(e: EdgeTable, edges: usize, conditionrow: u32) -> [u32;
     ensures { result ≡ known_rows_by_edge e.kind e.condition e.from edges conditionrow }
 {
     let mut knownby = no_edges();
-    let mut k: usize = 0;
-    while k < edges {
+    for k in 0..edges {
         let row = conditionrow + e.condition[k];
         knownby[k] = known_row(e.kind[k], e.from[k], row);
-        k += 1;
     }
     knownby
 }
@@ -89,12 +85,10 @@ pub(crate) fn remotes(node: [u32; PROCESSES], e: EdgeTable, edges: usize) -> [u3
     ensures { result ≡ remote_by_edge node e.from e.to edges }
 {
     let mut remote = no_edges();
-    let mut k: usize = 0;
-    while k < edges {
+    for k in 0..edges {
         let i = wide(e.from[k]);
         let j = wide(e.to[k]);
         remote[k] = receiver(node[i], node[j]);
-        k += 1;
     }
     remote
 }

@@ -21,13 +21,11 @@ pub(crate) fn decided_by_node<'a>(
 {
     let mut decides = [0u32; NODES];
     let mut bit: u32 = 1;
-    let mut k: usize = 0;
-    while k < conditions {
+    for k in 0..conditions {
         let i = wide(decider[k]);
         let n = wide(node[i]);
         decides[n] += bit;
         bit += bit;
-        k += 1;
     }
     decides
 }

@@ -48,11 +48,9 @@ pub(crate) fn row_senders<'a>(
         conditionrow rows }
 {
     let mut sender = no_rows();
-    let mut r: usize = 0;
-    while r < rows {
+    for r in 0..rows {
         let i = wide(row_process(from, decider, processes, conditionrow, r));
         sender[r] = node[i];
-        r += 1;
     }
     sender
 }
@@ -90,10 +88,8 @@ pub(crate) fn row_spans<'a>(
     ensures { result ≡ spans_by_row ticks.now lasts.now sender.now processes rows }
 {
     let mut span = no_rows();
-    let mut r: usize = 0;
-    while r < rows {
+    for r in 0..rows {
         span[r] = row_span(ticks, lasts, processes, r, sender[r]);
-        r += 1;
     }
     span
 }
@@ -124,10 +120,8 @@ pub(crate) fn row_sizes(
     ensures { result ≡ sizes_by_row bytes.now processes conditionrow rows }
 {
     let mut size = no_rows();
-    let mut r: usize = 0;
-    while r < rows {
+    for r in 0..rows {
         size[r] = row_size(bytes, processes, conditionrow, r);
-        r += 1;
     }
     size
 }

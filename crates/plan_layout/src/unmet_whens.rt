@@ -26,11 +26,9 @@ fn values(combination: u32) -> [u32; CONDITIONS]
 {
     let mut value = [0u32; CONDITIONS];
     let mut rest = combination;
-    let mut k: usize = 0;
-    while k < CONDITIONS {
+    for k in 0..CONDITIONS {
         value[k] = rest % 2;
         rest = rest / 2;
-        k += 1;
     }
     value
 }
@@ -57,13 +55,11 @@ pub fn find_unmet(index: &Index, combination: u32, rows: &mut Rows)
 {
     let value = values(combination);
     let edges = edges_of(index);
-    let mut e: usize = 0;
-    while e < edges {
+    for e in 0..edges {
         let when = kind_of(index, e);
         if when != 0 {
             let k = condition_of(index, e);
             put_unmet(rows, e, is_unmet(when, value[k]));
         }
-        e += 1;
     }
 }

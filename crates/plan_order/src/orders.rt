@@ -45,10 +45,8 @@ fn receiver_weights(weight: &[u32], to: &[u32; EDGES], edges: usize) -> [u32; ED
     ensures { result ≡ fill EDGES (λ e. at weight.now (at to.now e)) edges }
 {
     let mut w = no_edges();
-    let mut e: usize = 0;
-    while e < edges {
+    for e in 0..edges {
         w[e] = number_at(weight, to[e]);
-        e += 1;
     }
     w
 }
@@ -65,10 +63,8 @@ fn sender_keys<'a>(
         (at node.now (at to.now e))) edges }
 {
     let mut key = no_edges();
-    let mut e: usize = 0;
-    while e < edges {
+    for e in 0..edges {
         key[e] = sender_key(number_at(node, from[e]), number_at(node, to[e]));
-        e += 1;
     }
     key
 }

@@ -20,12 +20,10 @@ fn greatest_after<'a>(
     ensures { result ≡ after (at from.now) (at to.now) edges (at urgency.now) i }
 {
     let mut most: u32 = 0;
-    let mut e: usize = 0;
-    while e < edges {
+    for e in 0..edges {
         if from[e] == i {
             most = greater(most, number_at(urgency, to[e]));
         }
-        e += 1;
     }
     most
 }

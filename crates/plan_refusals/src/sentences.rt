@@ -63,12 +63,10 @@ fn wrong_whens(e: EdgeTable, edges: usize, decider: [u32; CONDITIONS], condition
     requires fact_2 { conditions ≤ CONDITIONS }
     ensures { result ≡ any (wrong_when_at e.from e.kind e.condition decider conditions) (below edges) }
 {
-    let mut i: usize = 0;
-    while i < edges {
+    for i in 0..edges {
         if is_undecided(e.from[i], e.kind[i], e.condition[i], decider, conditions) {
             return true;
         }
-        i += 1;
     }
     false
 }
@@ -81,14 +79,12 @@ fn long_messages(e: EdgeTable, edges: usize, q: ProcessTable, s: SlotTable, slot
     ensures { result ≡ any (too_long_at q.node s.node s.bytes slots e.from e.to e.bytes)
         (below edges) }
 {
-    let mut i: usize = 0;
-    while i < edges {
+    for i in 0..edges {
         let sender = wide(e.from[i]);
         let receiver = wide(e.to[i]);
         if is_longer(q.node[sender], q.node[receiver], e.bytes[i], s, slots) {
             return true;
         }
-        i += 1;
     }
     false
 }

@@ -31,11 +31,9 @@ fn note_counts(k: usize, nodes: &mut Nodes)
     ensures { nodes_of nodes.new ≡ with_noted (sets (nodes_of nodes.old).noted (k * NODES)
         (nodes_of nodes.old).passed) (nodes_of nodes.old) }
 {
-    let mut n: usize = 0;
-    while n < NODES {
+    for n in 0..NODES {
         let x = passed_of(nodes, n);
         put_noted(nodes, k * NODES + n, x);
-        n += 1;
     }
 }
 
@@ -62,10 +60,8 @@ fn note_all(index: &Index, rows: &Rows, u: u32, nodes: &mut Nodes)
 {
     let first = conditionrow_of(index);
     let conditions = conditions_of(index);
-    let mut k: usize = 0;
-    while k < conditions {
+    for k in 0..conditions {
         note_one(rows, u, first + k, k, nodes);
-        k += 1;
     }
 }
 

@@ -89,8 +89,7 @@ pub fn plan_combinations(
     let mut passed = no_counts();
     let mut rows = empty_rows();
     let mut latest: u32 = 0;
-    let mut c: usize = 0;
-    while c < n {
+    for c in 0..n {
         let last = plan_one(
             index,
             c,
@@ -102,7 +101,6 @@ pub fn plan_combinations(
             &mut rows,
         );
         latest = greater(latest, last);
-        c += 1;
     }
     Totals {
         delay: latest,

@@ -35,13 +35,11 @@ fn pick(index: &Index, rows: &Rows, a: usize, b: usize, u: u32) -> usize
     ensures { (result ≡ picked (laid index.now) (rows_of rows.now) u a b)
         × (result ≤ PROCESSES) }
 {
-    let mut j = a;
-    while j < b {
+    for j in a..b {
         let i = dispatch_of(index, j);
         if can_start(index, rows, i, u) {
             return i;
         }
-        j += 1;
     }
     64
 }

@@ -29,12 +29,10 @@ fn move_down(nodes: &mut Nodes, k: usize, j: usize, z: usize) -> usize
         (nodes_of nodes.old) }
 {
     let mut to = k;
-    let mut i = j;
-    while i < z {
+    for i in j..z {
         let e = wait_of(nodes, i);
         put_wait(nodes, to, e);
         to += 1;
-        i += 1;
     }
     to
 }
@@ -131,10 +129,8 @@ fn arrive_all(slots: usize, end: u32, nodes: &mut Nodes)
         ≡ with_lastarrival (arrive_all end slots (nodes_of nodes.old).lastarrival)
         (nodes_of nodes.old) }
 {
-    let mut n: usize = 0;
-    while n < slots {
+    for n in 0..slots {
         put_lastarrival(nodes, n, end);
-        n += 1;
     }
 }
 

@@ -19,9 +19,7 @@ pub(crate) fn clear(to: &mut [u32], n: usize)
     requires { n ≤ length to.old }
     ensures { to.new ≡ sets to.old 0 (replicate n 0) }
 {
-    let mut i: usize = 0;
-    while i < n {
+    for i in 0..n {
         to[i] = 0;
-        i += 1;
     }
 }

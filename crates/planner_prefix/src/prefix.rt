@@ -78,12 +78,10 @@ fn source_of(comes: &[u32; ENTRIES], conditionrow: usize, conditions: usize, c: 
     };
     let mut rest = c;
     let mut power: usize = 1;
-    let mut k: usize = 0;
-    while k < conditions {
+    for k in 0..conditions {
         best = later(comes, conditionrow, c, k, power, rest % 2, best);
         rest = rest / 2;
         power = power * 2;
-        k += 1;
     }
     best
 }
@@ -104,11 +102,9 @@ fn cut_rows(index: &Index, all: &[u32; ENTRIES], d: usize, u: u32, rows: &mut Ro
     ensures { rows_of rows.new ≡ with_comes (cut (block all.now d)
         (laid index.now).span u) (rows_of rows.old) }
 {
-    let mut r: usize = 0;
-    while r < ROWS {
+    for r in 0..ROWS {
         let x = cut_row(all[d * ROWS + r], span_of(index, r), u);
         put_comes(rows, r, x);
-        r += 1;
     }
 }
 
@@ -119,12 +115,10 @@ fn last_ends(index: &Index, rows: &Rows, nodes: &mut Nodes)
         (rows_of rows.now).comes (laid index.now).processes) (nodes_of nodes.old) }
 {
     let processes = processes_of(index);
-    let mut i: usize = 0;
-    while i < processes {
+    for i in 0..processes {
         let n = node_of(index, i);
         let x = greater(busy_of(nodes, n), comes_of(rows, i));
         put_busy(nodes, n, x);
-        i += 1;
     }
 }
 

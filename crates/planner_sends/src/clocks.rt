@@ -42,12 +42,10 @@ fn any_sends(nodes: &Nodes, u: u32) -> bool
     ensures { result ≡ any (λ n. eqb (get_or (nodes_of nodes.now).nextsend n 0) u) (below NODES) }
 {
     let mut found = false;
-    let mut n: usize = 0;
-    while n < NODES {
+    for n in 0..NODES {
         if nextsend_of(nodes, n) == u {
             found = true;
         }
-        n += 1;
     }
     found
 }
@@ -57,12 +55,10 @@ fn which_sends(nodes: &Nodes, slots: usize, u: u32) -> usize
     requires { slots ≤ NODES }
     ensures { result ≡ sending_node_by (nodes_of nodes.now).nextsend u slots }
 {
-    let mut n: usize = 0;
-    while n < slots {
+    for n in 0..slots {
         if nextsend_of(nodes, n) == u {
             return n;
         }
-        n += 1;
     }
     slots
 }
@@ -96,10 +92,8 @@ fn next_end(nodes: &Nodes, slots: usize, u: u32) -> u32
     ensures { result ≡ come_by 0 (nodes_of nodes.now).busy u slots }
 {
     let mut least: u32 = NEVER;
-    let mut n: usize = 0;
-    while n < slots {
+    for n in 0..slots {
         least = sooner(least, busy_of(nodes, n), u);
-        n += 1;
     }
     least
 }
@@ -135,13 +129,11 @@ pub fn next_event(nodes: &Nodes, come: u32) -> u32
     ensures { result ≡ event_now (nodes_of nodes.now).nextsend come NODES }
 {
     let mut least = come;
-    let mut n: usize = 0;
-    while n < NODES {
+    for n in 0..NODES {
         let next = nextsend_of(nodes, n);
         if next < least {
             least = next;
         }
-        n += 1;
     }
     least
 }

@@ -41,14 +41,12 @@ pub(crate) fn find_waiting(
         (nodes_of nodes.old) }
 {
     let mut k = a;
-    let mut j = a;
-    while j < b {
+    for j in a..b {
         let e = queue_of(index, j);
         if waits(index, rows, e, u) {
             put_wait(nodes, k, e as u32);
             k += 1;
         }
-        j += 1;
     }
     k
 }

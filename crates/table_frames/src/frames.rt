@@ -58,8 +58,7 @@ fn collect_row(
     }
     let mut m = n;
     let mut y = frame(list[from], node, bytes);
-    let mut i = from + 1;
-    while i < to {
+    for i in from + 1..to {
         let x = frame(list[i], node, bytes);
         if x / 1024 == y / 1024 {
             y = greater_u64(x, y);
@@ -67,7 +66,6 @@ fn collect_row(
             m = add(y, out, m);
             y = x;
         }
-        i += 1;
     }
     add(y, out, m)
 }
@@ -88,13 +86,11 @@ pub fn collect(
 {
     let rows = rows_of(index);
     let mut n: usize = 0;
-    let mut q = processes_of(index);
-    while q < rows {
+    for q in processes_of(index)..rows {
         let from = wide(ends[q]);
         let to = wide(ends[q + 1]);
         let node = sender_of(index, q) as u32;
         n = collect_row(list, from, to, node, size_of(index, q), out, n);
-        q += 1;
     }
     n
 }
@@ -105,14 +101,12 @@ pub(crate) fn write(list: &[u64; ENTRIES], n: usize, words: &mut [u32])
         × ((i : ℕ) → i < n → get_or list.now i 0 < 4398046511104) }
     ensures { words.new ≡ front (packed_words (take n list.now)) words.old }
 {
-    let mut i: usize = 0;
     let mut k: usize = 0;
-    while i < n {
+    for i in 0..n {
         let y = list[i];
         words[k] = word(y / 1024);
         words[k + 1] = word(y % 1024 / 128);
         words[k + 2] = word(y % 128);
         k += 3;
-        i += 1;
     }
 }

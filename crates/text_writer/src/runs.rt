@@ -18,11 +18,9 @@ pub(crate) fn put_slots(out: &mut [u8], at: usize, p: Plan) -> usize
 {
     let n = p.slots;
     let mut end = at;
-    let mut i: usize = 0;
-    while i < n {
+    for i in 0..n {
         let s = p.slot[i];
         end = put_slot(out, end, s);
-        i += 1;
     }
     end
 }
@@ -34,11 +32,9 @@ pub(crate) fn put_processes(out: &mut [u8], at: usize, p: Plan) -> usize
 {
     let n = p.processes;
     let mut end = at;
-    let mut i: usize = 0;
-    while i < n {
+    for i in 0..n {
         let q = p.process[i];
         end = put_process(out, end, q);
-        i += 1;
     }
     end
 }
@@ -50,11 +46,9 @@ pub(crate) fn put_conditions(out: &mut [u8], at: usize, p: Plan) -> usize
 {
     let n = p.conditions;
     let mut end = at;
-    let mut i: usize = 0;
-    while i < n {
+    for i in 0..n {
         let process = p.condition[i];
         end = put_condition(out, end, process);
-        i += 1;
     }
     end
 }
@@ -66,11 +60,9 @@ pub(crate) fn put_edges(out: &mut [u8], at: usize, p: Plan) -> usize
 {
     let n = p.edges;
     let mut end = at;
-    let mut i: usize = 0;
-    while i < n {
+    for i in 0..n {
         let e = p.edge[i];
         end = put_edge(out, end, e);
-        i += 1;
     }
     end
 }

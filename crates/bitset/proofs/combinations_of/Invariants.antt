@@ -5,6 +5,3 @@ use Rattle.bitset.proofs.combinations_of.Given as goal
 
 abbrev pub invariant-loop-k : goal.invariant-loop-k
 invariant-loop-k l = (l.k ≤ l.conditions) × (l.n ≡ 2 ^ l.k)
-
-abbrev pub decreases-loop-k : goal.decreases-loop-k
-decreases-loop-k l = l.conditions - l.k

@@ -11,6 +11,3 @@ abbrev pub invariant-loop-i : goal.invariant-loop-i
 invariant-loop-i l =
     (l.i ≤ l.slots) × (l.sum ≤ SLOTTICKS * l.i) × (ticks_before l.line l.slot l.bytes l.node (below l.slots) ≡ l.sum + ticks_before l.line l.slot l.bytes l.node (upfrom l.i (l.slots - l.i)))
     × (slot_bytes l.slot l.bytes l.node (below l.slots) ≡ slot_bytes l.slot l.bytes l.node (upfrom l.i (l.slots - l.i)))
-
-abbrev pub decreases-loop-i : goal.decreases-loop-i
-decreases-loop-i l = l.slots - l.i

@@ -10,6 +10,3 @@ abbrev pub invariant-loop-n : goal.invariant-loop-n
 invariant-loop-n l =
     (l.n ≤ l.slots) × (l.offset ≡ fill 8 (λ k. ticks_before l.line l.slot l.bytes k (below l.slots)) l.n) × (l.ticks ≡ fill 8 (λ k. ticks_of l.line (slot_bytes l.slot l.bytes k (below l.slots))) l.n)
     × (l.room ≡ fill 8 (λ k. slot_bytes l.slot l.bytes k (below l.slots)) l.n)
-
-abbrev pub decreases-loop-n : goal.decreases-loop-n
-decreases-loop-n l = l.slots - l.n

@@ -9,6 +9,3 @@ use Rattle.kernel_rows.proofs.entries_before.Given as goal
 
 abbrev pub invariant-loop-i : goal.invariant-loop-i
 invariant-loop-i l = (l.i ≤ l.n) × (before_row l.row (entries_of l.table) ≡ l.i + before_row l.row (drop l.i (entries_of l.table)))
-
-abbrev pub decreases-loop-i : goal.decreases-loop-i
-decreases-loop-i l = l.n - l.i

@@ -10,6 +10,3 @@ use Rattle.kernel_rows.proofs.entries_from.Given as goal
 abbrev pub invariant-loop-i : goal.invariant-loop-i
 invariant-loop-i l =
     (l.first ≤ l.i) × (l.i ≤ l.n) × (run_of_row l.row (drop l.first (entries_of l.table)) ≡ (l.i - l.first) + run_of_row l.row (drop l.i (entries_of l.table)))
-
-abbrev pub decreases-loop-i : goal.decreases-loop-i
-decreases-loop-i l = l.n - l.i

@@ -8,6 +8,3 @@ use Rattle.listing_count.proofs.passed_room.Given as goal
 
 abbrev pub invariant-loop-i : goal.invariant-loop-i
 invariant-loop-i l = (l.i ≤ length l.passed) × Leaving l.room l.left (passed_text 0 l.passed) (passed_text l.i (drop l.i l.passed))
-
-abbrev pub decreases-loop-i : goal.decreases-loop-i
-decreases-loop-i l = length l.passed - l.i

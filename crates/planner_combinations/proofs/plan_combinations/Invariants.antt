@@ -7,6 +7,3 @@ use Rattle.planner_combinations.proofs.plan_combinations.Given as goal
 
 abbrev pub invariant-loop-c : goal.invariant-loop-c
 invariant-loop-c l = (l.c ≤ l.n) × Sofar (laid l.index) l.c l.latest l.comes l.place l.since l.notes l.passed
-
-abbrev pub decreases-loop-c : goal.decreases-loop-c
-decreases-loop-c l = l.n - l.c

@@ -9,6 +9,3 @@ use Rattle.planner_dispatch.proofs.pick.Given as goal
 abbrev pub invariant-loop-j : goal.invariant-loop-j
 invariant-loop-j l =
     picked (laid l.index) (rows_of l.rows) l.u l.a l.b ≡ picked (laid l.index) (rows_of l.rows) l.u l.j l.b
-
-abbrev pub decreases-loop-j : goal.decreases-loop-j
-decreases-loop-j l = l.b - l.j

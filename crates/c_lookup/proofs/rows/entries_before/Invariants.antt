@@ -10,6 +10,3 @@ use Rattle.c_lookup.proofs.rows.entries_before.Given as goal
 
 abbrev pub invariant-loop-i : goal.invariant-loop-i
 invariant-loop-i l = (l.i ≤ l.n) × (before_row l.row (entries_of (words_of l.bytes)) ≡ l.i + before_row l.row (drop l.i (entries_of (words_of l.bytes))))
-
-abbrev pub decreases-loop-i : goal.decreases-loop-i
-decreases-loop-i l = l.n - l.i

@@ -11,6 +11,3 @@ use Rattle.c_lookup.proofs.rows.entries_from.Given as goal
 abbrev pub invariant-loop-i : goal.invariant-loop-i
 invariant-loop-i l =
     (l.first ≤ l.i) × (l.i ≤ l.n) × (run_of_row l.row (drop l.first (entries_of (words_of l.bytes))) ≡ (l.i - l.first) + run_of_row l.row (drop l.i (entries_of (words_of l.bytes))))
-
-abbrev pub decreases-loop-i : goal.decreases-loop-i
-decreases-loop-i l = l.n - l.i

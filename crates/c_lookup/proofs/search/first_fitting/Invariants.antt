@@ -11,6 +11,3 @@ abbrev pub invariant-loop-i : goal.invariant-loop-i
 invariant-loop-i l =
     let test = fits_by l.b.node l.b.rows l.node l.tick l.heard l.told in
     find_by test (drop l.first (entries_of (words_of l.bytes))) l.first ≡ find_by test (drop l.i (entries_of (words_of l.bytes))) l.i
-
-abbrev pub decreases-loop-i : goal.decreases-loop-i
-decreases-loop-i l = l.n - l.i

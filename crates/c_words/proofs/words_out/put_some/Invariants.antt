@@ -8,6 +8,3 @@ use Rattle.c_words.proofs.words_out.put_some.Given as goal
 
 abbrev pub invariant-loop-i : goal.invariant-loop-i
 invariant-loop-i l = (l.i ≤ l.end) × (l.out ≡ sets l.initial.out 0 (take l.i (bytes_of l.words)))
-
-abbrev pub decreases-loop-i : goal.decreases-loop-i
-decreases-loop-i l = l.end - l.i

@@ -9,6 +9,3 @@ use Rattle.checker_frames.proofs.shared_bytes.share_byte.Given as goal
 
 abbrev pub invariant-loop-i : goal.invariant-loop-i
 invariant-loop-i l = some_share (laid l.index) (rows_of l.rows) ≡ some (row_shares (laid l.index) (rows_of l.rows)) l.i l.end
-
-abbrev pub decreases-loop-i : goal.decreases-loop-i
-decreases-loop-i l = l.end - l.i

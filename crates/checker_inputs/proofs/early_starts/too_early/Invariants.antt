@@ -9,6 +9,3 @@ use Rattle.checker_inputs.proofs.early_starts.too_early.Given as goal
 
 abbrev pub invariant-loop-r : goal.invariant-loop-r
 invariant-loop-r l = some_early (laid l.index) (rows_of l.rows) ≡ some (row_early_in (laid l.index) (rows_of l.rows)) l.r l.end
-
-abbrev pub decreases-loop-r : goal.decreases-loop-r
-decreases-loop-r l = l.end - l.r

@@ -5,6 +5,3 @@ use Rattle.checker_listing.proofs.frame_ticks.ticks_ascend.Given as goal
 
 abbrev pub invariant-loop-k : goal.invariant-loop-k
 invariant-loop-k l = (1 ≤ l.k) × FirstAscend l.frames l.k
-
-abbrev pub decreases-loop-k : goal.decreases-loop-k
-decreases-loop-k l = l.count - l.k

@@ -7,6 +7,3 @@ use Rattle.checker_listing.proofs.frames.items_fit.Given as goal
 
 abbrev pub invariant-loop-i : goal.invariant-loop-i
 invariant-loop-i l = (l.i ≤ l.count) × Going (laid l.index) l.table l.frames l.i l.filled
-
-abbrev pub decreases-loop-i : goal.decreases-loop-i
-decreases-loop-i l = l.count - l.i

@@ -6,6 +6,3 @@ use Rattle.checker_rows.proofs.met.miscounts.Given as goal
 
 abbrev pub invariant-loop-r : goal.invariant-loop-r
 invariant-loop-r l = (l.r ≤ l.rows) × Left (differs_at l.count l.due) l.rows l.r
-
-abbrev pub decreases-loop-r : goal.decreases-loop-r
-decreases-loop-r l = l.rows - l.r

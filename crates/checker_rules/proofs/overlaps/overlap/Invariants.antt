@@ -9,6 +9,3 @@ use Rattle.checker_rules.proofs.overlaps.overlap.Given as goal
 
 abbrev pub invariant-loop-i : goal.invariant-loop-i
 invariant-loop-i l = some_overlap (laid l.index) (rows_of l.rows) ≡ some (row_overlaps (laid l.index) (rows_of l.rows)) l.i l.processes
-
-abbrev pub decreases-loop-i : goal.decreases-loop-i
-decreases-loop-i l = l.processes - l.i

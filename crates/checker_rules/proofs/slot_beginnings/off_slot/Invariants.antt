@@ -9,6 +9,3 @@ use Rattle.checker_rules.proofs.slot_beginnings.off_slot.Given as goal
 
 abbrev pub invariant-loop-r : goal.invariant-loop-r
 invariant-loop-r l = some_off (laid l.index) (rows_of l.rows) ≡ some (row_off (laid l.index) (rows_of l.rows)) l.r l.end
-
-abbrev pub decreases-loop-r : goal.decreases-loop-r
-decreases-loop-r l = l.end - l.r

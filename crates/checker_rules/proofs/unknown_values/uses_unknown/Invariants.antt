@@ -9,6 +9,3 @@ use Rattle.checker_rules.proofs.unknown_values.uses_unknown.Given as goal
 
 abbrev pub invariant-loop-r : goal.invariant-loop-r
 invariant-loop-r l = some_unknown (laid l.index) (rows_of l.rows) l.column ≡ some (row_unknown (laid l.index) (rows_of l.rows) l.column) l.r l.end
-
-abbrev pub decreases-loop-r : goal.decreases-loop-r
-decreases-loop-r l = l.end - l.r

@@ -11,6 +11,3 @@ abbrev pub invariant-loop-c : goal.invariant-loop-c
 invariant-loop-c l =
     (l.first ≤ 20) × Fewest (λ k. (found_by (laid l.index) l.table k).first) l.combinations l.c l.first
     × Most (λ k. (found_by (laid l.index) l.table k).delay) (λ k. true) l.combinations l.c l.delay
-
-abbrev pub decreases-loop-c : goal.decreases-loop-c
-decreases-loop-c l = l.combinations - l.c

@@ -6,6 +6,3 @@ use Rattle.kernel.proofs.nodes.put_edges.Given as goal
 
 abbrev pub invariant-loop-i : goal.invariant-loop-i
 invariant-loop-i l = (l.i ≤ l.p.edges) × (l.node ≡ nodes_to l.p (l.p.processes + l.i))
-
-abbrev pub decreases-loop-i : goal.decreases-loop-i
-decreases-loop-i l = l.p.edges - l.i

@@ -6,6 +6,3 @@ use Rattle.kernel.proofs.nodes.put_processes.Given as goal
 
 abbrev pub invariant-loop-i : goal.invariant-loop-i
 invariant-loop-i l = (l.i ≤ l.p.processes) × (l.node ≡ nodes_to l.p l.i)
-
-abbrev pub decreases-loop-i : goal.decreases-loop-i
-decreases-loop-i l = l.p.processes - l.i

@@ -10,6 +10,3 @@ abbrev pub invariant-loop-i : goal.invariant-loop-i
 invariant-loop-i l =
     let test = fits_by l.b.node l.b.rows l.node l.tick l.heard l.told in
     find_by test (drop l.first (entries_of l.table)) l.first ≡ find_by test (drop l.i (entries_of l.table)) l.i
-
-abbrev pub decreases-loop-i : goal.decreases-loop-i
-decreases-loop-i l = l.n - l.i

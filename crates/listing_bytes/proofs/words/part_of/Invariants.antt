@@ -7,6 +7,3 @@ use Rattle.listing_bytes.proofs.words.part_of.Given as goal
 
 abbrev pub invariant-loop-i : goal.invariant-loop-i
 invariant-loop-i l = (l.i ≤ length l.initial.part) × (length l.part ≡ length l.initial.part) × Put l.initial.part l.part 0 l.i (take l.i (drop l.from l.word))
-
-abbrev pub decreases-loop-i : goal.decreases-loop-i
-decreases-loop-i l = length l.initial.part - l.i

@@ -6,6 +6,3 @@ use Rattle.listing_reader.proofs.passed.read_passed.Given as goal
 
 abbrev pub invariant-loop-node : goal.invariant-loop-node
 invariant-loop-node l = (counts : List ℕ) × Sofar counts l.text l.at l.slots l.initial.passed l.passed l.next l.node
-
-abbrev pub decreases-loop-node : goal.decreases-loop-node
-decreases-loop-node l = l.slots - l.node

@@ -12,6 +12,3 @@ abbrev pub invariant-loop-j : goal.invariant-loop-j
 invariant-loop-j l =
     settles (laid l.index) (rows_of l.rows) l.u (edges_at (laid l.index) l.a l.b)
     ≡ settled (has_delivered (laid l.index) (rows_of l.rows) l.u) (never_delivers (laid l.index) (rows_of l.rows) l.u) l.some (edges_at (laid l.index) l.j l.b)
-
-abbrev pub decreases-loop-j : goal.decreases-loop-j
-decreases-loop-j l = l.b - l.j

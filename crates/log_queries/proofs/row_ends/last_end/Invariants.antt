@@ -9,6 +9,3 @@ use Rattle.log_queries.proofs.row_ends.last_end.Given as goal
 abbrev pub invariant-loop-i : goal.invariant-loop-i
 invariant-loop-i l =
     Most (λ i. get_or (rows_of l.rows).comes i 0) (λ k. true) l.processes l.i l.most
-
-abbrev pub decreases-loop-i : goal.decreases-loop-i
-decreases-loop-i l = l.processes - l.i

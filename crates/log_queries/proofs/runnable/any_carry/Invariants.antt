@@ -10,6 +10,3 @@ use Rattle.log_queries.proofs.runnable.any_carry.Given as goal
 abbrev pub invariant-loop-j : goal.invariant-loop-j
 invariant-loop-j l =
     any (may_carry (laid l.index) (rows_of l.rows) l.u) (edges_at (laid l.index) l.a l.b) ≡ any (may_carry (laid l.index) (rows_of l.rows) l.u) (edges_at (laid l.index) l.j l.b)
-
-abbrev pub decreases-loop-j : goal.decreases-loop-j
-decreases-loop-j l = l.b - l.j

@@ -7,6 +7,3 @@ use Rattle.log_queries.proofs.runnable.clear_run.Given as goal
 abbrev pub invariant-loop-i : goal.invariant-loop-i
 invariant-loop-i l =
     (l.i ≤ 64) × (l.rows ≡ cleared l.initial.rows l.i)
-
-abbrev pub decreases-loop-i : goal.decreases-loop-i
-decreases-loop-i l = 64 - l.i

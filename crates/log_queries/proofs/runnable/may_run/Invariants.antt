@@ -16,6 +16,3 @@ runnable b s u = may_run_by b.from b.knownby s.unmet s.comes u b.asany b.intofir
 abbrev pub invariant-loop-i : goal.invariant-loop-i
 invariant-loop-i l =
     (l.i ≤ l.processes) × (rows_of l.rows ≡ with_run (runnable (laid l.index) (rows_of l.initial.rows) l.u l.i) (rows_of l.initial.rows))
-
-abbrev pub decreases-loop-i : goal.decreases-loop-i
-decreases-loop-i l = l.processes - l.i

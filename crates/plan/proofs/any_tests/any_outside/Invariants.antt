@@ -6,6 +6,3 @@ use Rattle.plan.proofs.any_tests.any_outside.Given as goal
 
 abbrev pub invariant-loop-i : goal.invariant-loop-i
 invariant-loop-i l = (l.i ≤ l.n) × Left (outside_at l.xs l.lo l.hi) l.n l.i
-
-abbrev pub decreases-loop-i : goal.decreases-loop-i
-decreases-loop-i l = l.n - l.i

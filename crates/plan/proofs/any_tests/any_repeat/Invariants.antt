@@ -9,6 +9,3 @@ use Rattle.plan.proofs.any_tests.any_repeat.Given as goal
 
 abbrev pub invariant-loop-i : goal.invariant-loop-i
 invariant-loop-i l = (l.i ≤ l.n) × Left (earlier (key l.high l.low)) l.n l.i × Marked (key l.high l.low) 4096 l.seen l.i
-
-abbrev pub decreases-loop-i : goal.decreases-loop-i
-decreases-loop-i l = l.n - l.i

@@ -7,6 +7,3 @@ use Rattle.plan.proofs.fields.slot_bytes.Given as goal
 
 abbrev pub invariant-loop-i : goal.invariant-loop-i
 invariant-loop-i l = (l.i ≤ l.slots) × (slot_bytes l.s.node l.s.bytes l.node (below l.slots) ≡ slot_bytes l.s.node l.s.bytes l.node (upfrom l.i (l.slots - l.i)))
-
-abbrev pub decreases-loop-i : goal.decreases-loop-i
-decreases-loop-i l = l.slots - l.i

@@ -12,6 +12,3 @@ invariant-loop-i l =
     (l.i ≤ l.n) × (l.n ≡ min l.p.edges 128) × (l.from ≡ fill 128 (λ k. (get_or l.p.edge k no_edge).from) l.i) × (l.to ≡ fill 128 (λ k. (get_or l.p.edge k no_edge).to) l.i)
     × (l.bytes ≡ fill 128 (λ k. (get_or l.p.edge k no_edge).bytes) l.i) × (l.kind ≡ fill 128 (λ k. kind_number (get_or l.p.edge k no_edge).when) l.i)
     × (l.condition ≡ fill 128 (λ k. condition_number (get_or l.p.edge k no_edge).when) l.i)
-
-abbrev pub decreases-loop-i : goal.decreases-loop-i
-decreases-loop-i l = l.n - l.i

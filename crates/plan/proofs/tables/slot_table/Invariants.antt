@@ -9,6 +9,3 @@ use Rattle.plan.proofs.tables.slot_table.Given as goal
 abbrev pub invariant-loop-i : goal.invariant-loop-i
 invariant-loop-i l =
     (l.i ≤ l.n) × (l.n ≡ min l.p.slots 8) × (l.node ≡ fill 8 (λ k. (get_or l.p.slot k no_slot).node) l.i) × (l.bytes ≡ fill 8 (λ k. (get_or l.p.slot k no_slot).bytes) l.i)
-
-abbrev pub decreases-loop-i : goal.decreases-loop-i
-decreases-loop-i l = l.n - l.i

@@ -7,6 +7,3 @@ use Rattle.plan_layout.proofs.index.deciders.Given as goal
 
 abbrev pub invariant-loop-k : goal.invariant-loop-k
 invariant-loop-k l = (l.k ≤ l.p.conditions) × (l.decider ≡ fill 6 (at l.p.condition) l.k)
-
-abbrev pub decreases-loop-k : goal.decreases-loop-k
-decreases-loop-k l = l.p.conditions - l.k

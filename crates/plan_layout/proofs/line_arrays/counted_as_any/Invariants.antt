@@ -8,6 +8,3 @@ use Rattle.plan_layout.proofs.line_arrays.counted_as_any.Given as goal
 
 abbrev pub invariant-loop-i : goal.invariant-loop-i
 invariant-loop-i l = (l.i ≤ l.processes) × (l.asany ≡ fill 64 (λ k. as_any_of (at l.any k) (at l.first k) (at l.first (k + 1))) l.i)
-
-abbrev pub decreases-loop-i : goal.decreases-loop-i
-decreases-loop-i l = l.processes - l.i

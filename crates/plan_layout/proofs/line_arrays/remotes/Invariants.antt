@@ -8,6 +8,3 @@ use Rattle.plan_layout.proofs.line_arrays.remotes.Given as goal
 
 abbrev pub invariant-loop-k : goal.invariant-loop-k
 invariant-loop-k l = (l.k ≤ l.edges) × (l.remote ≡ fill 128 (λ i. receiver_of (at l.node (at l.e.from i)) (at l.node (at l.e.to i))) l.k)
-
-abbrev pub decreases-loop-k : goal.decreases-loop-k
-decreases-loop-k l = l.edges - l.k

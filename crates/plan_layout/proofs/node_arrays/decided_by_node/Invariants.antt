@@ -7,6 +7,3 @@ use Rattle.plan_layout.proofs.node_arrays.decided_by_node.Given as goal
 
 abbrev pub invariant-loop-k : goal.invariant-loop-k
 invariant-loop-k l = (l.k ≤ l.conditions) × (l.decides ≡ fill 8 (decided_at l.decider l.node l.k) 8) × (l.bit ≡ 2 ^ l.k)
-
-abbrev pub decreases-loop-k : goal.decreases-loop-k
-decreases-loop-k l = l.conditions - l.k

@@ -8,6 +8,3 @@ use Rattle.plan_layout.proofs.row_arrays.row_senders.Given as goal
 
 abbrev pub invariant-loop-r : goal.invariant-loop-r
 invariant-loop-r l = (l.r ≤ l.rows) × (l.sender ≡ fill 198 (λ k. at l.node (process_of_row l.from l.decider l.processes l.conditionrow k)) l.r)
-
-abbrev pub decreases-loop-r : goal.decreases-loop-r
-decreases-loop-r l = l.rows - l.r

@@ -7,6 +7,3 @@ use Rattle.plan_layout.proofs.row_arrays.row_sizes.Given as goal
 
 abbrev pub invariant-loop-r : goal.invariant-loop-r
 invariant-loop-r l = (l.r ≤ l.rows) × (l.size ≡ fill 198 (size_of_row l.bytes l.processes l.conditionrow) l.r)
-
-abbrev pub decreases-loop-r : goal.decreases-loop-r
-decreases-loop-r l = l.rows - l.r

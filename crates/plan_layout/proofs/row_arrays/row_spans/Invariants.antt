@@ -8,6 +8,3 @@ use Rattle.plan_layout.proofs.row_arrays.row_spans.Given as goal
 
 abbrev pub invariant-loop-r : goal.invariant-loop-r
 invariant-loop-r l = (l.r ≤ l.rows) × (l.span ≡ fill 198 (λ k. span_of_row l.ticks l.lasts l.processes k (at l.sender k)) l.r)
-
-abbrev pub decreases-loop-r : goal.decreases-loop-r
-decreases-loop-r l = l.rows - l.r

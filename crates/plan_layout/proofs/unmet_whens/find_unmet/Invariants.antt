@@ -16,6 +16,3 @@ unmet-at b c k = unmet_of (at b.kind k) (value_of c (at b.condition k))
 
 abbrev pub invariant-loop-e : goal.invariant-loop-e
 invariant-loop-e l = (l.e ≤ l.edges) × (rows_of l.rows ≡ with_unmet (fill 128 (unmet-at (laid l.index) l.combination) l.e) (rows_of l.initial.rows))
-
-abbrev pub decreases-loop-e : goal.decreases-loop-e
-decreases-loop-e l = l.edges - l.e

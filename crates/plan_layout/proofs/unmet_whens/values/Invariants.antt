@@ -8,6 +8,3 @@ use Rattle.plan_layout.proofs.unmet_whens.values.Given as goal
 
 abbrev pub invariant-loop-k : goal.invariant-loop-k
 invariant-loop-k l = (l.k ≤ 6) × (l.rest ≡ l.combination / 2 ^ l.k) × (l.value ≡ fill 6 (value_of l.combination) l.k)
-
-abbrev pub decreases-loop-k : goal.decreases-loop-k
-decreases-loop-k l = 6 - l.k

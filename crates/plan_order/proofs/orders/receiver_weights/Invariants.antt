@@ -7,6 +7,3 @@ use Rattle.plan_order.proofs.orders.receiver_weights.Given as goal
 
 abbrev pub invariant-loop-e : goal.invariant-loop-e
 invariant-loop-e l = (l.e ≤ l.edges) × (l.w ≡ fill 128 (λ k. at l.weight (at l.to k)) l.e)
-
-abbrev pub decreases-loop-e : goal.decreases-loop-e
-decreases-loop-e l = l.edges - l.e

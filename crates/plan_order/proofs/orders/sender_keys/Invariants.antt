@@ -8,6 +8,3 @@ use Rattle.plan_order.proofs.orders.sender_keys.Given as goal
 
 abbrev pub invariant-loop-e : goal.invariant-loop-e
 invariant-loop-e l = (l.e ≤ l.edges) × (l.key ≡ fill 128 (λ k. sender_key (at l.node (at l.from k)) (at l.node (at l.to k))) l.e)
-
-abbrev pub decreases-loop-e : goal.decreases-loop-e
-decreases-loop-e l = l.edges - l.e

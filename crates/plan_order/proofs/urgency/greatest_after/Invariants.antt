@@ -7,6 +7,3 @@ use Rattle.plan_order.proofs.urgency.greatest_after.Given as goal
 
 abbrev pub invariant-loop-e : goal.invariant-loop-e
 invariant-loop-e l = (l.e ≤ l.edges) × Most (λ k. at l.urgency (at l.to k)) (λ k. eqb (at l.from k) l.i) l.edges l.e l.most
-
-abbrev pub decreases-loop-e : goal.decreases-loop-e
-decreases-loop-e l = l.edges - l.e

@@ -6,6 +6,3 @@ use Rattle.plan_refusals.proofs.sentences.long_messages.Given as goal
 
 abbrev pub invariant-loop-i : goal.invariant-loop-i
 invariant-loop-i l = (l.i ≤ l.edges) × Left (too_long_at l.q.node l.s.node l.s.bytes l.slots l.e.from l.e.to l.e.bytes) l.edges l.i
-
-abbrev pub decreases-loop-i : goal.decreases-loop-i
-decreases-loop-i l = l.edges - l.i

@@ -6,6 +6,3 @@ use Rattle.plan_refusals.proofs.sentences.wrong_whens.Given as goal
 
 abbrev pub invariant-loop-i : goal.invariant-loop-i
 invariant-loop-i l = (l.i ≤ l.edges) × Left (wrong_when_at l.e.from l.e.kind l.e.condition l.decider l.conditions) l.edges l.i
-
-abbrev pub decreases-loop-i : goal.decreases-loop-i
-decreases-loop-i l = l.edges - l.i

@@ -10,6 +10,3 @@ use Rattle.planner_combination.proofs.event.note_all.Given as goal
 
 abbrev pub invariant-loop-k : goal.invariant-loop-k
 invariant-loop-k l = (l.k ≤ l.conditions) × (nodes_of l.nodes ≡ with_noted (notes_below (rows_of l.rows).comes l.u (laid l.index).conditionrow (nodes_of l.initial.nodes).passed l.k (nodes_of l.initial.nodes).noted) (nodes_of l.initial.nodes))
-
-abbrev pub decreases-loop-k : goal.decreases-loop-k
-decreases-loop-k l = l.conditions - l.k

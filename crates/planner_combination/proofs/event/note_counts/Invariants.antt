@@ -8,6 +8,3 @@ use Rattle.planner_combination.proofs.event.note_counts.Given as goal
 
 abbrev pub invariant-loop-n : goal.invariant-loop-n
 invariant-loop-n l = (l.n ≤ 8) × (nodes_of l.nodes ≡ with_noted (nodes_of l.nodes).noted (nodes_of l.initial.nodes)) × (sets (nodes_of l.nodes).noted (l.k * 8 + l.n) (drop l.n (nodes_of l.initial.nodes).passed) ≡ sets (nodes_of l.initial.nodes).noted (l.k * 8) (nodes_of l.initial.nodes).passed)
-
-abbrev pub decreases-loop-n : goal.decreases-loop-n
-decreases-loop-n l = 8 - l.n

@@ -7,6 +7,3 @@ use Rattle.planner_packing.proofs.packing.arrive_all.Given as goal
 
 abbrev pub invariant-loop-n : goal.invariant-loop-n
 invariant-loop-n l = (l.n ≤ l.slots) × (nodes_of l.nodes ≡ with_lastarrival (arrive_all l.end l.n (nodes_of l.initial.nodes).lastarrival) (nodes_of l.initial.nodes))
-
-abbrev pub decreases-loop-n : goal.decreases-loop-n
-decreases-loop-n l = l.slots - l.n

@@ -8,6 +8,3 @@ use Rattle.planner_packing.proofs.packing.move_down.Given as goal
 abbrev pub invariant-loop-i : goal.invariant-loop-i
 invariant-loop-i l =
     Moving (nodes_of l.initial.nodes).wait l.k l.j l.z (nodes_of l.nodes).wait l.to l.i × (nodes_of l.nodes ≡ with_wait (nodes_of l.nodes).wait (nodes_of l.initial.nodes))
-
-abbrev pub decreases-loop-i : goal.decreases-loop-i
-decreases-loop-i l = l.z - l.i

@@ -7,6 +7,3 @@ use Rattle.planner_prefix.proofs.parts.clear.Given as goal
 
 abbrev pub invariant-loop-i : goal.invariant-loop-i
 invariant-loop-i l = (l.i ≤ l.n) × (length l.to ≡ length l.initial.to) × (sets l.to (0 + l.i) (drop l.i (replicate l.n 0)) ≡ sets l.initial.to 0 (replicate l.n 0))
-
-abbrev pub decreases-loop-i : goal.decreases-loop-i
-decreases-loop-i l = l.n - l.i

@@ -9,6 +9,3 @@ use Rattle.planner_prefix.proofs.prefix.last_ends.Given as goal
 
 abbrev pub invariant-loop-i : goal.invariant-loop-i
 invariant-loop-i l = (l.i ≤ l.processes) × (nodes_of l.nodes ≡ with_busy (ends_below (laid l.index).node (rows_of l.rows).comes l.i) (nodes_of l.initial.nodes))
-
-abbrev pub decreases-loop-i : goal.decreases-loop-i
-decreases-loop-i l = l.processes - l.i

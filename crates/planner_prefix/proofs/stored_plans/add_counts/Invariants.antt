@@ -7,6 +7,3 @@ use Rattle.planner_prefix.proofs.stored_plans.add_counts.Given as goal
 
 abbrev pub invariant-loop-n : goal.invariant-loop-n
 invariant-loop-n l = (l.n ≤ l.slots) × (l.totals ≡ added (nodes_of l.nodes).passed l.initial.totals l.n)
-
-abbrev pub decreases-loop-n : goal.decreases-loop-n
-decreases-loop-n l = l.slots - l.n

@@ -7,6 +7,3 @@ use Rattle.planner_sends.proofs.clocks.next_end.Given as goal
 
 abbrev pub invariant-loop-n : goal.invariant-loop-n
 invariant-loop-n l = (l.n ≤ l.slots) × (l.least ≡ come_by 0 (nodes_of l.nodes).busy l.u l.n)
-
-abbrev pub decreases-loop-n : goal.decreases-loop-n
-decreases-loop-n l = l.slots - l.n

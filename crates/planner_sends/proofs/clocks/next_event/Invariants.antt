@@ -8,6 +8,3 @@ use Rattle.planner_sends.proofs.clocks.next_event.Given as goal
 
 abbrev pub invariant-loop-n : goal.invariant-loop-n
 invariant-loop-n l = (l.n ≤ 8) × (l.least ≡ event_now (nodes_of l.nodes).nextsend l.come l.n)
-
-abbrev pub decreases-loop-n : goal.decreases-loop-n
-decreases-loop-n l = 8 - l.n

@@ -12,6 +12,3 @@ abbrev pub invariant-loop-j : goal.invariant-loop-j
 invariant-loop-j l =
     Finding (waits_to_send (laid l.index) (rows_of l.rows) l.u) (laid l.index).queue (nodes_of l.initial.nodes).wait l.a l.b (nodes_of l.nodes).wait l.k l.j
     × (nodes_of l.nodes ≡ with_wait (nodes_of l.nodes).wait (nodes_of l.initial.nodes))
-
-abbrev pub decreases-loop-j : goal.decreases-loop-j
-decreases-loop-j l = l.b - l.j

@@ -7,6 +7,3 @@ use Rattle.text_writer.proofs.runs.put_conditions.Given as goal
 
 abbrev pub invariant-loop-i : goal.invariant-loop-i
 invariant-loop-i l = (l.i ≤ l.n) × Put l.initial.out l.out l.at l.end (first_lines condition_line (λ i. i) 0 l.p.condition l.i)
-
-abbrev pub decreases-loop-i : goal.decreases-loop-i
-decreases-loop-i l = l.n - l.i

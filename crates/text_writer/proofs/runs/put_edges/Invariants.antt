@@ -8,6 +8,3 @@ use Rattle.text_writer.proofs.runs.put_edges.Given as goal
 
 abbrev pub invariant-loop-i : goal.invariant-loop-i
 invariant-loop-i l = (l.i ≤ l.n) × Put l.initial.out l.out l.at l.end (first_lines edge_line edge_of no_edge l.p.edge l.i)
-
-abbrev pub decreases-loop-i : goal.decreases-loop-i
-decreases-loop-i l = l.n - l.i

@@ -8,6 +8,3 @@ use Rattle.text_writer.proofs.runs.put_processes.Given as goal
 
 abbrev pub invariant-loop-i : goal.invariant-loop-i
 invariant-loop-i l = (l.i ≤ l.n) × Put l.initial.out l.out l.at l.end (first_lines process_line process_of no_process l.p.process l.i)
-
-abbrev pub decreases-loop-i : goal.decreases-loop-i
-decreases-loop-i l = l.n - l.i

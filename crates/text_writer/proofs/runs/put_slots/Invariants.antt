@@ -8,6 +8,3 @@ use Rattle.text_writer.proofs.runs.put_slots.Given as goal
 
 abbrev pub invariant-loop-i : goal.invariant-loop-i
 invariant-loop-i l = (l.i ≤ l.n) × Put l.initial.out l.out l.at l.end (first_lines slot_line slot_of no_slot l.p.slot l.i)
-
-abbrev pub decreases-loop-i : goal.decreases-loop-i
-decreases-loop-i l = l.n - l.i
