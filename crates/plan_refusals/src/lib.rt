@@ -5,4 +5,4 @@
 mod sentences;
 mod tables;
 
-pub use sentences::{Refusal, refuse};
+pub use sentences::refuse;

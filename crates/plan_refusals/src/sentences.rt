@@ -14,13 +14,7 @@ use plan::{
     EdgeTable, Plan, ProcessTable, SlotTable, any_not_below, any_repeat, any_twice, any_unordered,
     edge_table, is_longer, is_undecided, process_table, slot_table, wrong_counts,
 };
-
-// What a plan meets: nothing, or the number of the first refusal that applies.
-#[derive(Clone, Copy)]
-pub enum Refusal {
-    Nothing,
-    Refused(u32),
-}
+use refusals::Refusal;
 
 // A condition names no process, or one already named.
 fn wrong_deciders(decider: [u32; CONDITIONS], conditions: usize, processes: usize) -> bool
@@ -89,37 +83,37 @@ fn long_messages(e: EdgeTable, edges: usize, q: ProcessTable, s: SlotTable, slot
     false
 }
 
-// The first of refusals 2 to 9 that applies to a plan, or nothing.
-pub fn refuse(p: Plan) -> Refusal
+// The first of refusals 2 to 9 that applies to a plan.
+pub fn refuse(p: Plan) -> Result<(), Refusal>
     ensures { refusal_of result ≡ plan_refusal (lines p) }
 {
     if wrong_counts(p.slots, p.processes, p.conditions, p.edges) {
-        return Refusal::Refused(2);
+        return Err(Refusal::Counts);
     }
     let s = slot_table(p);
     let q = process_table(p);
     let e = edge_table(p);
     let decider = p.condition;
     if wrong_sizes(p.line, s, p.slots, e, p.edges, q, p.processes) {
-        return Refusal::Refused(3);
+        return Err(Refusal::Sizes);
     }
     if wrong_nodes(s, p.slots, q, p.processes) {
-        return Refusal::Refused(4);
+        return Err(Refusal::Nodes);
     }
     if wrong_deciders(decider, p.conditions, p.processes) {
-        return Refusal::Refused(5);
+        return Err(Refusal::Deciders);
     }
     if wrong_ends(e, p.edges, p.processes) {
-        return Refusal::Refused(6);
+        return Err(Refusal::EdgeEnds);
     }
     if twin_edges(e, p.edges) {
-        return Refusal::Refused(7);
+        return Err(Refusal::TwinEdges);
     }
     if wrong_whens(e, p.edges, decider, p.conditions) {
-        return Refusal::Refused(8);
+        return Err(Refusal::Whens);
     }
     if long_messages(e, p.edges, q, s, p.slots) {
-        return Refusal::Refused(9);
+        return Err(Refusal::LongMessage);
     }
-    Refusal::Nothing
+    Ok(())
 }

@@ -1,5 +1,5 @@
 -- `plan_refusals::long_messages` meets its contract: what is left gives the whole answer.
-use Prim.Native.Nat.{◌≤◌, ◌-◌}
+use Prim.Native.Nat.{◌≤◌}
 use Rattle.lists.proofs.Loops.{Left}
 use Rattle.plan.specs.Tests.{too_long_at}
 use Rattle.plan_refusals.proofs.sentences.long_messages.Given as goal

@@ -1,5 +1,5 @@
 -- `plan_refusals::wrong_whens` meets its contract: what is left gives the whole answer.
-use Prim.Native.Nat.{◌≤◌, ◌-◌}
+use Prim.Native.Nat.{◌≤◌}
 use Rattle.lists.proofs.Loops.{Left}
 use Rattle.plan.specs.Tests.{wrong_when_at}
 use Rattle.plan_refusals.proofs.sentences.wrong_whens.Given as goal
