@@ -82,10 +82,11 @@ fn new_nodes(nodes: &Nodes, come: u32, u: u32) -> u32
     ensures { (result < 256) × (come ≡ u → (n : ℕ) → n < NODES → bit result n
         ≡ new_at (nodes_of nodes.now).lastarrival (nodes_of nodes.now).busy u n) }
 {
-    if come != u {
-        return 0;
+    if come == u {
+        changed_nodes(nodes, u)
+    } else {
+        0
     }
-    changed_nodes(nodes, u)
 }
 
 // Each free node starts, where a row is over at this clock. Where none is, no node can start. A node that is not in the
@@ -98,9 +99,10 @@ fn begin(index: &Index, come: u32, u: u32, new: u32, rows: &mut Rows, nodes: &mu
         (nodes_of nodes.old) (rows_of rows.new) (nodes_of nodes.new) result }
 {
     if come == u {
-        return starts(index, u, new, rows, nodes);
+        starts(index, u, new, rows, nodes)
+    } else {
+        NEVER
     }
-    NEVER
 }
 
 // Where planning stands: the clock of the event, the clock at which a row is next over, the end of the last slot used,
@@ -137,10 +139,10 @@ pub(crate) fn event(index: &Index, at: Clocks, rows: &mut Rows, nodes: &mut Node
     update_next_sends(index, rows, look, broadcastend, u, new, begun, nodes);
     let first = begin(index, come, u, new, rows, nodes);
     let slots = slots_of(index);
-    let n = sending_node(nodes, slots, u);
+    let node = sending_node(nodes, slots, u);
     let s = send_slot(
         index,
-        n,
+        node,
         u,
         Ends {
             slotend,

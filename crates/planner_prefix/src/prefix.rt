@@ -11,7 +11,6 @@ ghost use Rattle.planner_prefix.specs.Prefix.{cut_one, cut, ends_below, arrival,
 ghost use Rattle.planner_prefix.specs.Prefix.{counts_at, Shared};
 
 use crate::parts::{clear, copy_numbers};
-use arrays::{difference, greater};
 use limits::{COMBINATIONNOTES, ENTRIES, NEVER, NODES, NOTED, NOTES, ROWS};
 use log_rows::{COMES_AT, PLACE_AT, Rows, WORDS, comes_of, put_comes};
 use plan_index::{Index, conditionrow_of, conditions_of, node_of, processes_of, slots_of, span_of};
@@ -30,10 +29,7 @@ pub struct Source {
 fn arrives(x: u32) -> u32
     ensures { result ≡ arrival x }
 {
-    if x == 0 {
-        return NEVER;
-    }
-    x
+    if x == 0 { NEVER } else { x }
 }
 
 // Of the best source so far and the combination without condition k, the one whose value arrives later. `power` is 2 to
@@ -80,8 +76,8 @@ fn source_of(comes: &[u32; ENTRIES], conditionrow: usize, conditions: usize, c: 
     let mut power: usize = 1;
     for k in 0..conditions {
         best = later(comes, conditionrow, c, k, power, rest % 2, best);
-        rest = rest / 2;
-        power = power * 2;
+        rest /= 2;
+        power *= 2;
     }
     best
 }
@@ -90,10 +86,7 @@ fn source_of(comes: &[u32; ENTRIES], conditionrow: usize, conditions: usize, c: 
 fn cut_row(x: u32, lasts: u32, u: u32) -> u32
     ensures { result ≡ cut_one x lasts u }
 {
-    if difference(x, lasts) < u {
-        return x;
-    }
-    0
+    if x.saturating_sub(lasts) < u { x } else { 0 }
 }
 
 // The rows of combination d that were placed before clock u, whatever rows are there before.
@@ -117,8 +110,8 @@ fn last_ends(index: &Index, rows: &Rows, nodes: &mut Nodes)
     let processes = processes_of(index);
     for i in 0..processes {
         let n = node_of(index, i);
-        let x = greater(busy_of(nodes, n), comes_of(rows, i));
-        put_busy(nodes, n, x);
+        let end = busy_of(nodes, n).max(comes_of(rows, i));
+        put_busy(nodes, n, end);
     }
 }
 
@@ -128,10 +121,12 @@ fn place_of_counts(s: Source) -> usize
     requires { (s.from < COMBINATIONS) × (s.condition < CONDITIONS) }
     ensures { result ≡ counts_at s }
 {
+    let first = s.from * COMBINATIONNOTES;
     if s.clock == NEVER {
-        return s.from * COMBINATIONNOTES + NOTED;
+        first + NOTED
+    } else {
+        first + s.condition * NODES
     }
-    s.from * COMBINATIONNOTES + s.condition * NODES
 }
 
 // What combination c takes over: the answer is the clock from which it is planned. The rows, whatever they hold before,

@@ -18,8 +18,7 @@ pub fn add_counts(nodes: &Nodes, slots: usize, totals: &mut [u32; NODES])
     ensures { totals.new ≡ added (nodes_of nodes.now).passed totals.old slots }
 {
     for n in 0..slots {
-        let before = totals[n];
-        totals[n] = before + passed_of(nodes, n);
+        totals[n] += passed_of(nodes, n);
     }
 }
 

@@ -1,6 +1,6 @@
 // The clocks of an event: for which nodes something is new, whose slot takes an item, when a process next ends, and
 // when the next event is. specs/Clocks.antt says what each is.
-ghost use Rattle.std.specs.Prelude.{◌≡◌, ℕ, ◌+◌, ◌<◌, ◌≤◌, eqb, get_or};
+ghost use Rattle.std.specs.Prelude.{◌≡◌, ℕ, ◌+◌, ◌<◌, ◌≤◌, eqb, get_or, unwrap_or, IfSome};
 ghost use Rattle.limits.specs.Limits.{NODES};
 ghost use Rattle.lists.specs.Lists.{any, below};
 ghost use Rattle.model.specs.Listing.{bit};
@@ -19,9 +19,7 @@ fn at_clock(nodes: &Nodes, at: usize, u: u32) -> u32
     ensures { result ≡ mask_from (λ n. eqb (get_or nodes.now (at + n) 0) u) 0 NODES }
 {
     let mut mask: u32 = 0;
-    let mut n: usize = NODES;
-    while 0 < n {
-        n -= 1;
+    for n in (0..NODES).rev() {
         mask = with_node(mask, nodes[at + n] == u);
     }
     mask
@@ -50,40 +48,38 @@ fn any_sends(nodes: &Nodes, u: u32) -> bool
     found
 }
 
-// The first node whose slot takes an item at clock u, or the number of slots.
-fn which_sends(nodes: &Nodes, slots: usize, u: u32) -> usize
+// The first node whose slot takes an item at clock u.
+fn which_sends(nodes: &Nodes, slots: usize, u: u32) -> Option<usize>
     requires { slots ≤ NODES }
-    ensures { result ≡ sending_node_by (nodes_of nodes.now).nextsend u slots }
+    ensures first { unwrap_or result slots ≡ sending_node_by (nodes_of nodes.now).nextsend u slots }
+    ensures among { IfSome result (λ n. n < slots) }
 {
     for n in 0..slots {
         if nextsend_of(nodes, n) == u {
-            return n;
+            return Some(n);
         }
     }
-    slots
+    None
 }
 
-// The node whose slot takes an item at clock u, or the number of slots.
-pub fn sending_node(nodes: &Nodes, slots: usize, u: u32) -> usize
+// The node whose slot takes an item at clock u, if there is one.
+pub fn sending_node(nodes: &Nodes, slots: usize, u: u32) -> Option<usize>
     requires { slots ≤ NODES }
-    ensures { result ≡ sending_node_by (nodes_of nodes.now).nextsend u slots }
+    ensures first { unwrap_or result slots ≡ sending_node_by (nodes_of nodes.now).nextsend u slots }
+    ensures among { IfSome result (λ n. n < slots) }
 {
     if any_sends(nodes, u) {
-        return which_sends(nodes, slots, u);
+        which_sends(nodes, slots, u)
+    } else {
+        None
     }
-    slots
 }
 
 // x where it lies after u and before the least so far, or else that.
 pub fn sooner(least: u32, x: u32, u: u32) -> u32
     ensures { result ≡ sooner_by least x u }
 {
-    if u < x {
-        if x < least {
-            return x;
-        }
-    }
-    least
+    if u < x { least.min(x) } else { least }
 }
 
 // The next clock after u at which a process ends, or `NEVER`.
@@ -105,12 +101,10 @@ pub fn ends_after(nodes: &Nodes, slots: usize, ends: u32, first: u32, u: u32) ->
     ensures { result ≡ ends_now ends first (nodes_of nodes.now).busy u slots }
 {
     if ends == u {
-        return next_end(nodes, slots, u);
+        next_end(nodes, slots, u)
+    } else {
+        ends.min(first)
     }
-    if first < ends {
-        return first;
-    }
-    ends
 }
 
 // The clock at which the items that a node has pending may next change: u where a broadcast arrives at it, or else the
@@ -118,10 +112,7 @@ pub fn ends_after(nodes: &Nodes, slots: usize, ends: u32, first: u32, u: u32) ->
 pub fn changes(broadcastend: u32, ends: u32, u: u32) -> u32
     ensures { result ≡ changes_at broadcastend ends u }
 {
-    if broadcastend != u {
-        return ends;
-    }
-    u
+    if broadcastend == u { u } else { ends }
 }
 
 // The next event: `come`, or when the slot of a node takes an item, if that is sooner.
@@ -130,10 +121,7 @@ pub fn next_event(nodes: &Nodes, come: u32) -> u32
 {
     let mut least = come;
     for n in 0..NODES {
-        let next = nextsend_of(nodes, n);
-        if next < least {
-            least = next;
-        }
+        least = least.min(nextsend_of(nodes, n));
     }
     least
 }

@@ -17,10 +17,7 @@ fn waits(index: &Index, rows: &Rows, e: usize, u: u32) -> bool
     requires { (e < EDGES) × Bounded (laid index.now) }
     ensures { result ≡ waits_to_send (laid index.now) (rows_of rows.now) u e }
 {
-    if comes_of(rows, processes_of(index) + e) != 0 {
-        return false;
-    }
-    message_ready(index, rows, e, u)
+    comes_of(rows, processes_of(index) + e) == 0 && message_ready(index, rows, e, u)
 }
 
 // Stores the messages of queue[a .. b] that are ready and not sent, in the order of the queue, from place a of `wait`

@@ -1,6 +1,6 @@
 -- `planner_combinations::plan_combinations` meets its contract: before turn c the combinations below c are planned, and
 -- the turn plans c.
-use Prim.Native.Nat.{◌≤◌, ◌-◌}
+use Prim.Native.Nat.{◌≤◌}
 use Rattle.plan_index.specs.Index.{laid}
 use Rattle.planner_combinations.proofs.AllPlanned.{Sofar}
 use Rattle.planner_combinations.proofs.plan_combinations.Given as goal

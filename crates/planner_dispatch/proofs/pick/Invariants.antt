@@ -1,6 +1,5 @@
 -- `planner_dispatch::pick` meets its contract: what the processes from place j on give is what all of them give.
 use mathlib.Core.Path.{◌≡◌}
-use Prim.Native.Nat.{◌-◌}
 use Rattle.plan_index.specs.Index.{laid}
 use Rattle.log_rows.specs.Rows.{rows_of}
 use Rattle.planner_dispatch.specs.Dispatching.{picked}

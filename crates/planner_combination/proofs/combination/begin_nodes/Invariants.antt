@@ -1,6 +1,6 @@
 -- `planner_combination::begin_nodes` meets its contract: before turn n the first n nodes have begun.
 use mathlib.Core.Path.{◌≡◌}
-use Prim.Native.Nat.{◌≤◌, ◌-◌}
+use Prim.Native.Nat.{◌≤◌}
 use Rattle.limits.specs.Limits.{NEVER}
 use Rattle.lists.specs.Lists.{fill}
 use Rattle.planner_nodes.specs.Nodes.{nodes_of, with_nextsend, with_lastarrival}

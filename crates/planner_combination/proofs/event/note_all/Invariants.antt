@@ -1,7 +1,7 @@
 -- `planner_combination::note_all` meets its contract: before condition k, the counts are noted for the conditions below
 -- k.
 use mathlib.Core.Path.{◌≡◌}
-use Prim.Native.Nat.{◌≤◌, ◌-◌}
+use Prim.Native.Nat.{◌≤◌}
 use Rattle.plan_index.specs.Index.{laid}
 use Rattle.log_rows.specs.Rows.{rows_of}
 use Rattle.planner_nodes.specs.Nodes.{nodes_of, with_noted}

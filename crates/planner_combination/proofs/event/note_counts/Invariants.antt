@@ -1,6 +1,6 @@
 -- `planner_combination::note_counts` meets its contract: before turn n what is left to note gives the whole.
 use mathlib.Core.Path.{◌≡◌}
-use Prim.Native.Nat.{◌+◌, ◌*◌, ◌≤◌, ◌-◌}
+use Prim.Native.Nat.{◌+◌, ◌*◌, ◌≤◌}
 use lib.ListN.{drop}
 use lib.Seq.{sets}
 use Rattle.planner_nodes.specs.Nodes.{nodes_of, with_noted}

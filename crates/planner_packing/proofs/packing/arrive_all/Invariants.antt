@@ -1,6 +1,6 @@
 -- `planner_packing::arrive_all` meets its contract: before node n, the nodes below n are reached.
 use mathlib.Core.Path.{◌≡◌}
-use Prim.Native.Nat.{◌-◌, ◌≤◌}
+use Prim.Native.Nat.{◌≤◌}
 use Rattle.planner_nodes.specs.Nodes.{nodes_of, with_lastarrival}
 use Rattle.planner_sends.specs.Packing.{arrive_all}
 use Rattle.planner_packing.proofs.packing.arrive_all.Given as goal

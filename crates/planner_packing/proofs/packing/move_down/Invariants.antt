@@ -1,6 +1,5 @@
 -- `planner_packing::move_down` meets its contract: before place i, what stands before it is moved down.
 use mathlib.Core.Path.{◌≡◌}
-use Prim.Native.Nat.{◌-◌}
 use Rattle.planner_nodes.specs.Nodes.{nodes_of, with_wait}
 use Rattle.planner_sends.proofs.Places.{Moving}
 use Rattle.planner_packing.proofs.packing.move_down.Given as goal

@@ -1,6 +1,6 @@
 -- `planner_prefix::last_ends` meets its contract: before turn i the ends of the first i processes are looked at.
 use mathlib.Core.Path.{◌≡◌}
-use Prim.Native.Nat.{◌≤◌, ◌-◌}
+use Prim.Native.Nat.{◌≤◌}
 use Rattle.plan_index.specs.Index.{laid}
 use Rattle.log_rows.specs.Rows.{rows_of}
 use Rattle.planner_nodes.specs.Nodes.{nodes_of, with_busy}

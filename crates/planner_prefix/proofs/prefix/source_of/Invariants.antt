@@ -1,6 +1,6 @@
 -- `planner_prefix::source_of` meets its contract: before turn k the best source of the conditions below k is known.
 use mathlib.Core.Path.{◌≡◌}
-use Prim.Native.Nat.{◌≤◌, ◌-◌, ◌/◌, ◌^◌}
+use Prim.Native.Nat.{◌≤◌, ◌/◌, ◌^◌}
 use Rattle.planner_prefix.specs.Prefix.{source_among}
 use Rattle.planner_prefix.proofs.prefix.source_of.Given as goal
 

@@ -1,6 +1,6 @@
 -- `planner_prefix::add_counts` meets its contract: before turn n the counts of the first n nodes are added.
 use mathlib.Core.Path.{◌≡◌}
-use Prim.Native.Nat.{◌≤◌, ◌-◌}
+use Prim.Native.Nat.{◌≤◌}
 use Rattle.planner_nodes.specs.Nodes.{nodes_of}
 use Rattle.planner_prefix.specs.Stored.{added}
 use Rattle.planner_prefix.proofs.stored_plans.add_counts.Given as goal

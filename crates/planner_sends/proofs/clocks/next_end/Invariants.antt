@@ -1,6 +1,6 @@
 -- `planner_sends::next_end` meets its contract: before node n, the least is that of the nodes below n.
 use mathlib.Core.Path.{◌≡◌}
-use Prim.Native.Nat.{◌-◌, ◌≤◌}
+use Prim.Native.Nat.{◌≤◌}
 use Rattle.planner_nodes.specs.Nodes.{nodes_of}
 use Rattle.planner_sends.specs.Clocks.{come_by}
 use Rattle.planner_sends.proofs.clocks.next_end.Given as goal

@@ -1,7 +1,7 @@
 -- `planner_sends::next_event` meets its contract: before node n, the least is that of the next row over and the
 -- slots of the nodes below n.
 use mathlib.Core.Path.{◌≡◌}
-use Prim.Native.Nat.{◌-◌, ◌≤◌}
+use Prim.Native.Nat.{◌≤◌}
 use Rattle.planner_nodes.specs.Nodes.{nodes_of}
 use Rattle.planner_sends.specs.Clocks.{event_now}
 use Rattle.planner_sends.proofs.clocks.next_event.Given as goal

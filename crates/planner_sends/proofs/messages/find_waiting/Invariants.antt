@@ -1,6 +1,5 @@
 -- `planner_sends::find_waiting` meets its contract: before place j, the messages that wait so far stand in order.
 use mathlib.Core.Path.{◌≡◌}
-use Prim.Native.Nat.{◌-◌}
 use Rattle.plan_index.specs.Index.{laid}
 use Rattle.log_rows.specs.Rows.{rows_of}
 use Rattle.planner_nodes.specs.Nodes.{nodes_of, with_wait}
