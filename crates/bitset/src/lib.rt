@@ -8,9 +8,6 @@ ghost use Rattle.limits.specs.Limits.{CONDITIONS};
 ghost use Rattle.lists.specs.Lists.{null};
 ghost use Rattle.bitset.specs.Masks.{members, nodes, under};
 
-// The name of with_bit at masks of nodes.
-pub use with_bit as with_node;
-
 // Whether a mask has no members.
 pub fn is_empty(mask: u32) -> bool
     requires { mask < 64 }
@@ -49,6 +46,14 @@ pub fn with_bit(mask: u32, set: bool) -> u32
     ensures { (result ≡ under set mask) × (result ≤ 2 * mask + 1) }
 {
     mask * 2 + u32::from(set)
+}
+
+// with_bit at a mask of nodes.
+pub fn with_node(mask: u32, set: bool) -> u32
+    requires { mask < 128 }
+    ensures { (result ≡ under set mask) × (result < 256) }
+{
+    with_bit(mask, set)
 }
 
 // The lowest node of a mask of nodes (not one function with `lowest`: a caller would show the mask's width each time).
