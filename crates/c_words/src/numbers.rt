@@ -5,5 +5,5 @@ ghost use Rattle.std.specs.Prelude.{◌≡◌, ◌-◌};
 pub fn refused(n: u32) -> u64
     ensures { result ≡ 18446744073709551615 - n }
 {
-    18446744073709551615 - n as u64
+    u64::MAX - u64::from(n)
 }
