@@ -3,7 +3,7 @@
 use mathlib.Core.Path.{◌≡◌}
 use mathlib.Core.Bool.{true, false}
 use mathlib.Core.Logic.{◌⊎◌, inl, inr}
-use Prim.Native.Nat.{ℕ, ◌*◌, ◌%◌, ◌^◌, ◌≤◌, ◌<◌}
+use Prim.Native.Nat.{ℕ, ◌^◌, ◌≤◌, ◌<◌}
 use native.Mathlib.Nat.{pow-le-pow_right}
 use native.Mathlib.Omega.{arith}
 use borrow.Author.Tests.{lt-ltb, le-ltb, ltb-true, ltb-false}
@@ -20,10 +20,6 @@ module _ (conditions : ℕ) where
   pub sets_some : conditions ≤ CONDITIONS → sets_of conditions ≡ 2 ^ conditions
   unfolding sets_of
   sets_some h = rw (le-ltb CONDITIONS conditions h)
-
-  -- a shift by at most six places, as a machine word of 32 bits has it
-  pub sets_shifted : conditions ≤ CONDITIONS → 1 * 2 ^ conditions % 4294967296 ≡ sets_of conditions
-  sets_shifted h = rw (sets_some h) (omega (arith, pow-le-pow_right {n = 2} (omega arith) {i = conditions} {j = CONDITIONS} h))
 
   pub sets_most : (sets_of conditions ≤ COMBINATIONS) × (sets_of conditions ≤ 2 ^ conditions)
   sets_most = at (two (ltb CONDITIONS conditions))

@@ -34,12 +34,12 @@ fn put_each(out: &mut [u8], at: usize, conditions: usize, known: u32, values: u3
     let mut x = known;
     let mut v = values;
     for k in 0..conditions {
-        if x == 0 {
-            return end;
-        }
         end = put_value(out, end, x, v, k as u32);
         x /= 2;
         v /= 2;
+        if x == 0 {
+            return end;
+        }
     }
     end
 }
@@ -57,14 +57,22 @@ fn put_six(out: &mut [u8], at: usize, known: u32, values: u32) -> usize
     put_value(out, five, known / 32, values / 32, 5)
 }
 
-// How many sets of known conditions a plan has, where it has at most six conditions; otherwise none.
+// How many sets of known conditions a plan has, where it has at most six conditions; otherwise none. By a table: the
+// compiler moves a shift into the loop over the lines.
+#[tactic(auto, unfolding(crate::specs::Sets::sets_of))]
 pub(crate) fn known_sets(conditions: usize) -> u32
     ensures { result ≡ sets_of conditions }
 {
-    if CONDITIONS < conditions {
-        return 0;
+    match conditions {
+        0 => 1,
+        1 => 2,
+        2 => 4,
+        3 => 8,
+        4 => 16,
+        5 => 32,
+        CONDITIONS => 64,
+        _ => 0,
     }
-    1 << conditions
 }
 
 // Stores the known conditions of a column that the plan has, by how many sets of known conditions it has.
