@@ -3,24 +3,31 @@ ghost use Rattle.std.specs.Prelude.{◌+◌, ◌≤◌, length};
 ghost use Rattle.text_lines.specs.Put.{Put};
 ghost use Rattle.listing_bytes.specs.Fits.{Fits};
 
-// Stores a word.
+// Stores a word. It is mostly a few known bytes, for which copy_from_slice takes more instructions: a tenth more to store
+// a table.
 pub fn put_word(out: &mut [u8], at: usize, word: &[u8]) -> usize
     requires { Fits out.old at word.now }
     ensures { Put out.old out.new at result word.now }
 {
-    let end = at + word.len();
-    out[at..end].copy_from_slice(word);
-    end
+    for (i, &b) in word.iter().enumerate() {
+        out[at + i] = b;
+    }
+    at + word.len()
 }
 
-// Stores a word of N to 2 N bytes as its first N and its last N, which may overlap.
+// Stores a word of N to 2 N bytes as its first N and its last N, which may overlap. Both are read whole before any is
+// stored: a copy straight from the word takes more instructions.
 fn put_ends<const N: usize>(out: &mut [u8], at: usize, word: &[u8]) -> usize
     requires { (N ≤ length word.now) × (length word.now ≤ N + N) × Fits out.old at word.now }
     ensures { Put out.old out.new at result word.now }
 {
     let rest = word.len() - N;
-    put_word(out, at, &word[..N]);
-    put_word(out, at + rest, &word[rest..])
+    let mut first = [0u8; N];
+    let mut last = [0u8; N];
+    first.copy_from_slice(&word[..N]);
+    last.copy_from_slice(&word[rest..]);
+    put_word(out, at, &first);
+    put_word(out, at + rest, &last)
 }
 
 // Stores a word of at least eight bytes: one of at most thirty-two in two parts of one length.

@@ -76,12 +76,12 @@ fn values_room(room: usize, conditions: usize, known: u32, values: u32) -> usize
     let mut x = known;
     let mut v = values;
     for k in 0..conditions {
-        if x == 0 {
-            return left;
-        }
         left = value_room(left, x, v, k as u32);
         x /= 2;
         v /= 2;
+        if x == 0 {
+            return left;
+        }
     }
     left
 }

@@ -12,4 +12,4 @@ returns g c =
     let word = c.args.word.now in
     let rest = length word - g.row.N in
     let e : take (length word - rest) (drop rest word) ≡ drop rest word = take_all _ _ (omega (arith, length-drop rest word)) in
-    put_halves word g.row.N c.requires.0 c.requires.1 c.put_word.ensures (rw e at c.put_word-2.ensures)
+    put_halves word g.row.N c.requires.0 c.requires.1 (rw c.copy_from_slice.ensures.after at c.put_word.ensures) (rw (c.copy_from_slice-2.ensures.after, e) at c.put_word-2.ensures)
