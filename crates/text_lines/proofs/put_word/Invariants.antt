@@ -1,5 +1,5 @@
 -- `text_lines::put_word` meets its contract: before turn i the first i bytes of the word are put.
-use Prim.Native.Nat.{◌≤◌, ◌-◌}
+use Prim.Native.Nat.{◌≤◌}
 use lib.ListN.{length, take}
 use Rattle.text_lines.specs.Put.{Put}
 use Rattle.text_lines.proofs.put_word.Given as goal

@@ -1,7 +1,7 @@
 -- `c_lookup::entries_before` meets its contract: before turn i, what the entries from i on add is all that is left to
 -- count.
 use mathlib.Core.Path.{◌≡◌}
-use Prim.Native.Nat.{◌+◌, ◌-◌, ◌≤◌}
+use Prim.Native.Nat.{◌+◌, ◌≤◌}
 use lib.ListN.{drop}
 use Rattle.model.specs.Table.{entries_of}
 use Rattle.model.specs.Firmware.{words_of}
