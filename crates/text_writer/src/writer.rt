@@ -4,7 +4,7 @@ ghost use Rattle.model.specs.Refusals.{nothing, plan_refusal};
 ghost use Rattle.model.specs.Text.{print, write_plan, bytes_after};
 ghost use Rattle.plan.specs.Memory.{lines};
 ghost use Rattle.refusals.specs.Numbers.{numbered};
-ghost use Rattle.text_writer.specs.Answer.{answer_of};
+ghost use Rattle.text_lines.specs.Answer.{answer_of};
 
 use crate::plan_text::put_plan;
 use plan::Plan;

@@ -1,4 +1,4 @@
--- What the plan writer's answer stands for.
+-- What the answer of a call that writes a text to lent bytes stands for.
 -- Assumes nothing.
 use Rattle.std.specs.Prelude.{ℕ, Result, Ok, Err, length}
 use Rattle.model.specs.Text.{wrote, not_written}
