@@ -18,7 +18,7 @@ use Rattle.plan.specs.declared.Plan.{Plan}
 use Rattle.plan.specs.Memory.{lines, empty_plan}
 use Rattle.plan_refusals.specs.Answer.{refusal_of}
 use Rattle.text_reader.specs.Answer.{reading_of}
-use Rattle.text_writer.specs.Answer as writer
+use Rattle.text_lines.specs.Answer as writer
 use Rattle.planner_table.specs.Planner as planner
 use Rattle.listing.specs.Answer as listing
 use Rattle.program.specs.Listing.{ListsPlan}
@@ -90,7 +90,7 @@ plan_table_says (calls.plan_table c) = (c.learnt.0, c.learnt.1.0, c.learnt.1.1.0
 -- what the contract of `listing::write_listing` says
 abbrev pub WriteListingSaid : Plan → (delay : ℕ) → (passed table frames out out-now : List ℕ) → Outcome ℕ → Type 0
 WriteListingSaid p delay passed table frames out out-now r =
-    (numbered r ≡ listing.answer_of (listing.written_of (length out) (words_listing (lines p) delay passed table frames)))
+    (numbered r ≡ writer.answer_of (listing.written_of (length out) (words_listing (lines p) delay passed table frames)))
     × (out-now ≡ bytes_after (listing.written_of (length out) (words_listing (lines p) delay passed table frames)) out)
 
 pub write_listing_says : {p : Plan} {delay : ℕ} {passed table frames out out-now : List ℕ} {r : Outcome ℕ} → calls.WriteListing p delay passed table frames out out-now r → WriteListingSaid p delay passed table frames out out-now r
@@ -99,7 +99,7 @@ write_listing_says (calls.write_listing c) = (c.learnt.0, c.learnt.1)
 -- what the contract of `listing::write_refusal` says
 abbrev pub WriteRefusalSaid : ℕ → (out out-now : List ℕ) → Outcome ℕ → Type 0
 WriteRefusalSaid number out out-now r =
-    (numbered r ≡ listing.answer_of (listing.written_of (length out) (refused_line number)))
+    (numbered r ≡ writer.answer_of (listing.written_of (length out) (refused_line number)))
     × (out-now ≡ bytes_after (listing.written_of (length out) (refused_line number)) out)
 
 pub write_refusal_says : {number : ℕ} {out out-now : List ℕ} {r : Outcome ℕ} → calls.WriteRefusal number out out-now r → WriteRefusalSaid number out out-now r

@@ -24,7 +24,7 @@ use Rattle.refusals.proofs.Numbered.{is_ok}
 use Rattle.plan.specs.declared.Plan.{Plan}
 use Rattle.plan.specs.Memory.{lines, empty_plan}
 use Rattle.text_reader.specs.Answer.{reading_of}
-use Rattle.text_writer.specs.Answer as writer
+use Rattle.text_lines.specs.Answer as writer
 use Rattle.planner_table.specs.declared.Made.{Made}
 use Rattle.planner_table.specs.Planner as planner
 use Rattle.listing.specs.Answer as listing
@@ -36,7 +36,7 @@ use Rattle.demands.specs.Calls.{Outcome}
 use Rattle.demands.specs.Sentences.{Sentence, first, plan_sentences, bytes_sentences, room_sentences, listing_sentences, table_sentences, FirstOf, FirstOfText, KeepsTo}
 use Rattle.demands.specs.One.{LiesIn, Demand1}
 use Rattle.demands.proofs.Firsts.{plan_first, bytes_first, room_first, listing_first, table_first, plan_then, text_some, text_one, by_text, Told, keeps_list, keeps_text}
-use Rattle.demands.proofs.Told.{told_read, told_not_read, told_written, told_listed, told_planned, told_checked}
+use Rattle.demands.proofs.Told.{told_read, told_not_read, told_written, told_written, told_planned, told_checked}
 use Rattle.demands.proofs.OneC.{c_copying, c_listing_plan, c_planning, c_checking, c_looking_up, c_row}
 use Rattle.demands.proofs.Listings.{texts_some, texts_one, checking_listing, printing_check, c_checking_listing}
 use Rattle.demands.proofs.Within.{Finds, finds_none, finds_one, found_within, row_within}
@@ -103,13 +103,13 @@ planning p table frames passed table-now frames-now passed-now r e t f k =
     (told_planned q table frames passed table-now frames-now passed-now x r e t f k)
 
 -- a text put into lent bytes, where 10 is the only sentence
-put : (bytes out out-now : List ℕ) (r : Outcome ℕ) → numbered r ≡ listing.answer_of (listing.written_of (length out) bytes) →
+put : (bytes out out-now : List ℕ) (r : Outcome ℕ) → numbered r ≡ writer.answer_of (listing.written_of (length out) bytes) →
     out-now ≡ bytes_after (listing.written_of (length out) bytes) out →
     Told (λ n. numbered r ≡ Err n) (out-now ≡ out) ((n : ℕ) × (r ≡ Ok n)) (fitting (length out) bytes)
 unfolding listing.written_of
-put bytes out out-now r e b = told_listed bytes out out-now (fitting (length out) bytes) r e b
+put bytes out out-now r e b = told_written bytes out out-now (fitting (length out) bytes) r e b
 
-listing_bytes : (bytes out out-now : List ℕ) (r : Outcome ℕ) → numbered r ≡ listing.answer_of (listing.written_of (length out) bytes) →
+listing_bytes : (bytes out out-now : List ℕ) (r : Outcome ℕ) → numbered r ≡ writer.answer_of (listing.written_of (length out) bytes) →
     out-now ≡ bytes_after (listing.written_of (length out) bytes) out →
     KeepsTo (FirstOf (bytes_sentences bytes (length out))) (λ n. numbered r ≡ Err n) (out-now ≡ out) ((n : ℕ) × (r ≡ Ok n))
 listing_bytes bytes out out-now r e b =
@@ -118,13 +118,13 @@ listing_bytes bytes out out-now r e b =
 
 module _ (text out out-now : List ℕ) where
   -- the listing of a text's plan
-  listed_plan : (r : Outcome ℕ) (p : Lines) → plan_refusal p ≡ nothing → numbered r ≡ listing.answer_of (list_plan p (length out)) → out-now ≡ bytes_after (list_plan p (length out)) out →
+  listed_plan : (r : Outcome ℕ) (p : Lines) → plan_refusal p ≡ nothing → numbered r ≡ writer.answer_of (list_plan p (length out)) → out-now ≡ bytes_after (list_plan p (length out)) out →
       Told (λ n. numbered r ≡ Err n) (out-now ≡ out) ((n : ℕ) × (r ≡ Ok n)) (first (listing_sentences p (length out)))
   unfolding list_plan or_else
   listed_plan r p fine e b =
       let w : list_plan p (length out) ≡ unless_refused (listing_refusal p (length out)) (plan_listing p) = rw fine in
       rw (listing_first p (length out))
-      (told_listed (plan_listing p) out out-now (listing_refusal p (length out)) r (e ∙ ap listing.answer_of w) (b ∙ ap (λ (z : _). bytes_after z out) w))
+      (told_written (plan_listing p) out out-now (listing_refusal p (length out)) r (e ∙ ap writer.answer_of w) (b ∙ ap (λ (z : _). bytes_after z out) w))
 
   listing_plan : (r : Outcome ℕ) → ListsPlan text out out-now r →
       KeepsTo (FirstOfText text (λ p. plan_sentences p ++ listing_sentences p (length out))) (λ n. numbered r ≡ Err n) (out-now ≡ out) ((n : ℕ) × (r ≡ Ok n))
@@ -133,7 +133,7 @@ module _ (text out out-now : List ℕ) where
       let T : m.Refusal → Type 0 = Told (λ n. numbered r ≡ Err n) (out-now ≡ out) ((n : ℕ) × (r ≡ Ok n)) in
       let x =
       by_text text (λ p. listing_sentences p (length out))
-      (λ s x. numbered r ≡ listing.answer_of (list_reading s (length out)) → out-now ≡ bytes_after (list_reading s (length out)) out → T x) c.reading c.of_text
+      (λ s x. numbered r ≡ writer.answer_of (list_reading s (length out)) → out-now ≡ bytes_after (list_reading s (length out)) out → T x) c.reading c.of_text
       (λ n l k e b. (e, (λ j f. cc), b)) (λ p m fine e b. listed_plan r p fine e b) in
       keeps_text (λ n. numbered r ≡ Err n) (out-now ≡ out) ((n : ℕ) × (r ≡ Ok n)) text (λ p. plan_sentences p ++ listing_sentences p (length out)) x.0 x.1
       (x.2 c.answer c.bytes)

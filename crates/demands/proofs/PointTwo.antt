@@ -33,6 +33,7 @@ use Rattle.refusals.specs.Numbers.{numbered}
 use Rattle.refusals.proofs.Numbered.{is_ok}
 use Rattle.plan.specs.declared.Plan.{Plan}
 use Rattle.plan.specs.Memory.{lines}
+use Rattle.text_lines.specs.Answer as writer
 use Rattle.listing.specs.Answer as listing-answer
 use Rattle.checker_table.specs.Verdict.{answer_of}
 use Rattle.checker_table.proofs.AcceptedSound.{accepted_sound}
@@ -211,7 +212,7 @@ same_listing : (p : Lines) (bytes : List ℕ) (s : Result) → States p bytes s 
 unfolding words_listing
 same_listing p bytes s m passed e = rw (entries_back s.entries, frames_back s.frames, e) m.prints
 
-written_whole : (bytes out out-now : List ℕ) (r : Outcome ℕ) → numbered r ≡ listing-answer.answer_of (listing-answer.written_of (length out) bytes) →
+written_whole : (bytes out out-now : List ℕ) (r : Outcome ℕ) → numbered r ≡ writer.answer_of (listing-answer.written_of (length out) bytes) →
     out-now ≡ bytes_after (listing-answer.written_of (length out) bytes) out → length bytes ≤ length out → (r ≡ Ok (length bytes)) × (out-now ≡ front bytes out)
 unfolding listing-answer.written_of fitting unless_refused bytes_after
 written_whole bytes out out-now r e b l =
@@ -268,7 +269,7 @@ point_2 =
       printed_again = λ p bytes s m out out-now r passed e c l.
           (let w = write_listing_says c in
           let q = same_listing (lines p) bytes s m passed e in
-          written_whole bytes out out-now r (w.0 ∙ ap (λ (z : List ℕ). listing-answer.answer_of (listing-answer.written_of (length out) z)) q)
+          written_whole bytes out out-now r (w.0 ∙ ap (λ (z : List ℕ). writer.answer_of (listing-answer.written_of (length out) z)) q)
           (w.1 ∙ ap (λ (z : List ℕ). bytes_after (listing-answer.written_of (length out) z) out) q) l);
       read_again = λ p table delay c h s m. read_again p table delay c h s m;
       listed_accepted = λ p table delay c h r k. listed_accepted p table delay c h r k;

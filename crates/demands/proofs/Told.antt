@@ -22,7 +22,7 @@ use Rattle.program.proofs.Room.{listing_most}
 use Rattle.plan.specs.declared.Plan.{Plan}
 use Rattle.plan.specs.Memory.{lines}
 use Rattle.text_reader.specs.Answer.{reading_of}
-use Rattle.text_writer.specs.Answer as writer
+use Rattle.text_lines.specs.Answer as writer
 use Rattle.planner_table.specs.declared.Made.{Made}
 use Rattle.planner_table.specs.Planner as planner
 use Rattle.listing.specs.Answer as listing
@@ -57,19 +57,13 @@ module _ (text : List ℕ) (r : Outcome Plan) where
       Told (λ n. numbered r ≡ Err n) (Unit {0}) ((q : Plan) × (r ≡ Ok q) × Means text (lines q)) (refused n)
   told_not_read n e = let q = number_read r n e in (q, (λ k f. cc), tt)
 
--- the plan writer's answer, and the listing's
+-- the answer of a text put into lent bytes
 module _ (bytes out out-now : List ℕ) where
   pub told_written : (x : m.Refusal) (r : Outcome ℕ) → numbered r ≡ writer.answer_of (unless_refused x bytes) → out-now ≡ bytes_after (unless_refused x bytes) out →
       Told (λ n. numbered r ≡ Err n) (out-now ≡ out) ((n : ℕ) × (r ≡ Ok n)) x
   unfolding unless_refused bytes_after
   told_written nothing r e b = ((λ n f. absurd (let z : ◌≡◌ {A = ℕ} 0 1 = cc in omega arith)), (length bytes, is_ok r (length bytes) e))
   told_written (refused n) r e b = (e, (λ k f. cc), b)
-
-  pub told_listed : (x : m.Refusal) (r : Outcome ℕ) → numbered r ≡ listing.answer_of (unless_refused x bytes) → out-now ≡ bytes_after (unless_refused x bytes) out →
-      Told (λ n. numbered r ≡ Err n) (out-now ≡ out) ((n : ℕ) × (r ≡ Ok n)) x
-  unfolding unless_refused bytes_after
-  told_listed nothing r e b = ((λ n f. absurd (let z : ◌≡◌ {A = ℕ} 0 1 = cc in omega arith)), (length bytes, is_ok r (length bytes) e))
-  told_listed (refused n) r e b = (e, (λ k f. cc), b)
 
   -- a text of few bytes put into lent bytes, as a number
   pub told_number : (b : Bool) (answer : ℕ) → ltb (length out) (length bytes) ≡ b → length bytes ≤ 16384 → answer ≡ written_number (unless_refused (sentence 10 b nothing) bytes) →

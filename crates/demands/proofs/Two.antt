@@ -24,7 +24,7 @@ use Rattle.plan.specs.declared.Plan.{Plan}
 use Rattle.plan.specs.Memory.{lines}
 use Rattle.plan_refusals.specs.Answer.{refusal_of}
 use Rattle.text_reader.specs.Answer.{reading_of}
-use Rattle.text_writer.specs.Answer as writer
+use Rattle.text_lines.specs.Answer as writer
 use Rattle.plan_refusals.proofs.Accepted.{of_read}
 use Rattle.text_writer.proofs.ReadBack.{written_is_read, read_is_written}
 use Rattle.planner_table.specs.declared.Made.{Made}
@@ -161,14 +161,14 @@ prints_plan text s p a h =
     ap program_prints q ∙ ap (λ (y : Refusal). printed p (answered y (result p))) x
 
 -- a text that was put into lent bytes
-was_put : (bytes out out-now : List ℕ) (x : Refusal) (n : ℕ) → Ok n ≡ listing.answer_of (unless_refused x bytes) → out-now ≡ bytes_after (unless_refused x bytes) out →
+was_put : (bytes out out-now : List ℕ) (x : Refusal) (n : ℕ) → Ok n ≡ writer.answer_of (unless_refused x bytes) → out-now ≡ bytes_after (unless_refused x bytes) out →
     (n ≡ length bytes) × (out-now ≡ front bytes out)
 unfolding unless_refused bytes_after
 was_put bytes out out-now nothing n e b = (cc, b)
 was_put bytes out out-now (refused k) n e b = absurd (let z : ◌≡◌ {A = ℕ} 0 1 = cc in omega arith)
 
 module _ (text out out-now : List ℕ) where
-  was_listed : (n : ℕ) (s : Reading) → AnswersText text s → Ok n ≡ listing.answer_of (list_reading s (length out)) →
+  was_listed : (n : ℕ) (s : Reading) → AnswersText text s → Ok n ≡ writer.answer_of (list_reading s (length out)) →
       out-now ≡ bytes_after (list_reading s (length out)) out → ListedPlan text out out-now n
   unfolding list_reading list_plan
   was_listed n (reads p) a e b =
