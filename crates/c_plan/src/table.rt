@@ -7,9 +7,9 @@ ghost use Rattle.plan.specs.Memory.{lines};
 ghost use Rattle.c_plan.specs.Filled.{put_of, Filled};
 
 use crate::stored::put_planned_words;
-use arrays::{lesser_usize, no_counts};
+use arrays::zeros;
 use c_words::{entry_words, how_many};
-use limits::{FRAMEWORDS, TABLEWORDS};
+use limits::{FRAMEWORDS, NODES, TABLEWORDS};
 use plan::Plan;
 use planner::{Planned, plan_table};
 
@@ -46,7 +46,7 @@ fn put_planned(
         (length framewords.old)) table.old frames.old totals.old
         table.new frames.new totals.new }
 {
-    let mut passed = no_counts();
+    let mut passed = zeros::<NODES>();
     let nodes = p.slots;
     let planned = plan_table(p, words, framewords, &mut passed);
     match planned {
@@ -79,8 +79,8 @@ pub fn put_plan(p: Plan, table: &mut [u8], frames: &mut [u8], totals: &mut [u8])
 {
     let mut words = entry_words();
     let mut framewords = frame_words();
-    let count = lesser_usize(how_many(table), TABLEWORDS);
-    let framecount = lesser_usize(how_many(frames), FRAMEWORDS);
+    let count = how_many(table).min(TABLEWORDS);
+    let framecount = how_many(frames).min(FRAMEWORDS);
     put_planned(
         p,
         &mut words[..count],

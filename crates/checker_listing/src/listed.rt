@@ -6,9 +6,9 @@ ghost use Rattle.plan.specs.Memory.{lines};
 ghost use Rattle.checker_listing.specs.Listing.{Checks};
 
 use crate::stated::check_stated;
-use arrays::no_counts;
+use arrays::zeros;
 use checker_table::Checked;
-use limits::{PRINTEDFRAMEWORDS, PRINTEDWORDS};
+use limits::{NODES, PRINTEDFRAMEWORDS, PRINTEDWORDS};
 use listing_reader::{ListingRead, read_listing};
 use plan::Plan;
 
@@ -18,7 +18,7 @@ fn check_read(p: Plan, listing: &[u8], table: &mut [u32], frames: &mut [u32]) ->
     requires fact_2 { (PRINTEDWORDS ≤ length table.old) × (PRINTEDFRAMEWORDS ≤ length frames.old) }
     ensures { Checks (lines p) listing.now result }
 {
-    let mut passed = no_counts();
+    let mut passed = zeros::<NODES>();
     let read = read_listing(
         listing,
         p.slots,

@@ -11,7 +11,7 @@ ghost use Rattle.checker_listing.specs.Stated.{stated_in};
 
 use crate::counts::same_counts;
 use crate::frames::gives_frames;
-use arrays::no_counts;
+use arrays::zeros;
 use checker_table::{Checked, check_words};
 use limits::NODES;
 use plan::Plan;
@@ -31,7 +31,7 @@ fn check_sound(p: Plan, table: &[u32], frames: &[u32], passed: &[u32; NODES]) ->
     if !gives_frames(&index, table, frames) {
         return Checked::Refused(22);
     }
-    let mut counts = no_counts();
+    let mut counts = zeros::<NODES>();
     count_pass_overs(p, &mut counts);
     if !same_counts(passed, &counts, p.slots) {
         return Checked::Refused(22);

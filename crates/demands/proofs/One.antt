@@ -36,7 +36,7 @@ use Rattle.demands.specs.Calls.{Outcome}
 use Rattle.demands.specs.Sentences.{Sentence, first, plan_sentences, bytes_sentences, room_sentences, listing_sentences, table_sentences, FirstOf, FirstOfText, KeepsTo}
 use Rattle.demands.specs.One.{LiesIn, Demand1}
 use Rattle.demands.proofs.Firsts.{plan_first, bytes_first, room_first, listing_first, table_first, plan_then, text_some, text_one, by_text, Told, keeps_list, keeps_text}
-use Rattle.demands.proofs.Told.{told_read, told_not_read, told_written, told_written, told_planned, told_checked}
+use Rattle.demands.proofs.Told.{told_read, told_not_read, told_written, told_planned, told_checked}
 use Rattle.demands.proofs.OneC.{c_copying, c_listing_plan, c_planning, c_checking, c_looking_up, c_row}
 use Rattle.demands.proofs.Listings.{texts_some, texts_one, checking_listing, printing_check, c_checking_listing}
 use Rattle.demands.proofs.Within.{Finds, finds_none, finds_one, found_within, row_within}

@@ -5,7 +5,7 @@ ghost use Rattle.model.specs.Refusals.{nothing, plan_refusal};
 ghost use Rattle.plan.specs.Memory.{lines};
 ghost use Rattle.kernel.specs.Finding.{nodes_to, nodes_of};
 
-use arrays::{no_rows, wide};
+use arrays::{wide, zeros};
 use limits::ROWS;
 use plan::Plan;
 
@@ -59,7 +59,7 @@ pub fn row_nodes(p: Plan) -> RowNodes
     requires { plan_refusal (lines p) ≡ nothing }
     ensures { result ≡ nodes_of p }
 {
-    let mut node = no_rows();
+    let mut node = zeros::<ROWS>();
     put_processes(p, &mut node);
     put_edges(p, &mut node);
     put_conditions(p, &mut node);

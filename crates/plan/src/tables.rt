@@ -4,7 +4,6 @@ ghost use Rattle.plan.specs.Tables.{slots_table, processes_table, edges_table, k
 ghost use Rattle.plan.specs.Tables.{any_number};
 
 use crate::{Edge, Plan, Process, Waits, When};
-use arrays::lesser_usize;
 use limits::{EDGES, PROCESSES, SLOTS};
 
 // by slot, in bus order
@@ -65,7 +64,7 @@ fn condition_number(w: When) -> u32
 pub fn slot_table(p: Plan) -> SlotTable
     ensures { result ≡ slots_table p }
 {
-    let n = lesser_usize(p.slots, SLOTS);
+    let n = p.slots.min(SLOTS);
     let mut node = [0u32; SLOTS];
     let mut bytes = [0u32; SLOTS];
     for i in 0..n {
@@ -79,7 +78,7 @@ pub fn slot_table(p: Plan) -> SlotTable
 pub fn process_table(p: Plan) -> ProcessTable
     ensures { result ≡ processes_table p }
 {
-    let n = lesser_usize(p.processes, PROCESSES);
+    let n = p.processes.min(PROCESSES);
     let mut node = [0u32; PROCESSES];
     let mut ticks = [0u32; PROCESSES];
     let mut any = [0u32; PROCESSES];
@@ -96,7 +95,7 @@ pub fn process_table(p: Plan) -> ProcessTable
 pub fn edge_table(p: Plan) -> EdgeTable
     ensures { result ≡ edges_table p }
 {
-    let n = lesser_usize(p.edges, EDGES);
+    let n = p.edges.min(EDGES);
     let mut from = [0u32; EDGES];
     let mut to = [0u32; EDGES];
     let mut bytes = [0u32; EDGES];

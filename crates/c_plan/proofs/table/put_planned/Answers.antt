@@ -16,7 +16,7 @@ use Rattle.c_plan.proofs.table.put_planned.Goals.{In-Made}
 -- what was made stands in the lent words and in the counts
 stood : (c : In-Made) → let a = c.args in
     Stands (lines a.p) (plan_answer (lines a.p) (length a.words.now) (length a.framewords.now)) c.in-Made.m
-    a.words.now a.framewords.now c.no_counts-passed.result
+    a.words.now a.framewords.now c.zeros-passed.result
     c.plan_table-planned.new.table c.plan_table-planned.new.frames c.plan_table-planned.new.passed
 stood c =
     let a = c.args in
@@ -28,7 +28,7 @@ counted : (c : In-Made) → (c.args.p.slots ≤ length c.plan_table-planned.new.
 counted c =
     let s = stood c in
     let n = slots_length c.args.p in
-    let long = counts_long s (ap length c.no_counts-passed.ensures ∙ length-replicate {A = ℕ} NODES 0) in
+    let long = counts_long s (ap length c.zeros-passed.ensures ∙ length-replicate {A = ℕ} NODES 0) in
     (omega (arith, n, s.counts_few, long), omega (arith, n, s.counts_few))
 
 pub slice_bounds-passed-end : goal.slice_bounds-passed-end

@@ -26,7 +26,7 @@ slice_bounds-check_stated-end-in-Stated-3 c = sym (length-take-le _ _ (whole_wor
 pub check_stated-requires : goal.check_stated-requires
 check_stated-requires c =
     let w = first_words _ _ _ (whole_words (lines c.args.p) c.args.listing.now _ _ _ _ _ _ _ c.in-Stated.is (c.read_listing-read.ensures (lines c.args.p) c.requires.fact_1 (counts c.args.p)) c.requires.fact_2.0 c.requires.fact_2.1) in
-    record { fact_1 = c.requires.fact_1; fact_2 = (w.0, w.1, w.2, counts_long (lines c.args.p) c.args.listing.now _ _ _ _ _ _ c.requires.fact_1 _ c.in-Stated.is (c.read_listing-read.ensures (lines c.args.p) c.requires.fact_1 (counts c.args.p)) (ap length c.no_counts-passed.ensures ∙ length-replicate {A = ℕ} NODES 0)) }
+    record { fact_1 = c.requires.fact_1; fact_2 = (w.0, w.1, w.2, counts_long (lines c.args.p) c.args.listing.now _ _ _ _ _ _ c.requires.fact_1 _ c.in-Stated.is (c.read_listing-read.ensures (lines c.args.p) c.requires.fact_1 (counts c.args.p)) (ap length c.zeros-passed.ensures ∙ length-replicate {A = ℕ} NODES 0)) }
 
 pub returns-in-Refused : goal.returns-in-Refused
 returns-in-Refused c =
