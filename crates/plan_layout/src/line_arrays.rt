@@ -1,5 +1,5 @@
 // Arrays of a plan's lines: by process, whether it counts as `any`; by edge, the row that makes its `when` known and
-// the node that receives.
+// the node that receives. (Arrays with a count, not slices: the contracts speak of the zeros behind the count, too.)
 ghost use Rattle.std.specs.Prelude.{◌≡◌, ℕ, ◌<◌, ◌≤◌};
 ghost use Rattle.limits.specs.Limits.{NODES, PROCESSES, CONDITIONS, EDGES, CONDITIONROW};
 ghost use Rattle.plan.specs.Tests.{at};

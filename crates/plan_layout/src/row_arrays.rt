@@ -1,4 +1,5 @@
-// Arrays by row: the node that a row belongs to, the ticks that it lasts, and its bytes on the bus.
+// Arrays by row: the node that a row belongs to, the ticks that it lasts, and its bytes on the bus. (Arrays with a
+// count, not slices: the contracts speak of the zeros behind the count, too.)
 ghost use Rattle.std.specs.Prelude.{◌≡◌, ℕ, ◌+◌, ◌-◌, ◌<◌, ◌≤◌};
 ghost use Rattle.limits.specs.Limits.{NODES, PROCESSES, CONDITIONS, EDGES, ROWS};
 ghost use Rattle.plan.specs.Tests.{at};
