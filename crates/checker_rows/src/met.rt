@@ -69,10 +69,8 @@ pub fn met_rows(table: &[u32], c: u32, index: &Index, rows: &mut Rows) -> MetRow
 {
     let mut count = no_rows();
     let mut known = no_rows();
-    let mut at: usize = 0;
-    while at < table.len() {
-        put_entry(table, at, c, index, &mut count, &mut known, rows);
-        at += 5;
+    for i in 0..table.len() / 5 {
+        put_entry(table, i * 5, c, index, &mut count, &mut known, rows);
     }
     MetRows { count, known }
 }

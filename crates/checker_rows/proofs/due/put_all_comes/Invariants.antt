@@ -1,6 +1,6 @@
 -- `checker_rows::put_all_comes` meets its contract: before turn r the first r rows are over at the clock.
 use mathlib.Core.Path.{◌≡◌}
-use Prim.Native.Nat.{◌≤◌, ◌-◌}
+use Prim.Native.Nat.{◌≤◌}
 use lib.ListN.{length}
 use Rattle.log_rows.specs.Rows.{rows_of}
 use Rattle.checker_rows.proofs.DueMade.{over_first}

@@ -1,6 +1,6 @@
 -- `checker_rows::rows_due` meets its contract: before turn r the first r are filled.
 use mathlib.Core.Path.{◌≡◌}
-use Prim.Native.Nat.{◌≤◌, ◌-◌}
+use Prim.Native.Nat.{◌≤◌}
 use Rattle.lists.specs.Lists.{fill}
 use Rattle.plan_index.specs.Index.{laid}
 use Rattle.log_rows.specs.Rows.{rows_of}

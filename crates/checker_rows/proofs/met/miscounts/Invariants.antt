@@ -1,5 +1,5 @@
 -- `checker_rows::miscounts` meets its contract: what is left gives the whole answer.
-use Prim.Native.Nat.{◌≤◌, ◌-◌}
+use Prim.Native.Nat.{◌≤◌}
 use Rattle.lists.proofs.Loops.{Left}
 use Rattle.checker_rows.specs.Due.{differs_at}
 use Rattle.checker_rows.proofs.met.miscounts.Given as goal
