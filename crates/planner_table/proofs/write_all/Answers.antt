@@ -1,9 +1,9 @@
 -- `planner_table::write_all` meets its contract: the entries and frames listed are the model's, and each is written
 -- only where all lent words suffice.
-use mathlib.Core.Path.{◌≡◌, refl, sym, ap, ◌∙◌}
+use mathlib.Core.Path.{◌≡◌, refl, sym, ◌∙◌}
 use Prim.Native.Nat.{ℕ, ◌≤◌}
 use native.Mathlib.Omega.{arith}
-use lib.ListN.{length, length-replicate}
+use lib.ListN.{length-replicate}
 use Rattle.model.specs.Plan.{Lines}
 use Rattle.model.specs.Refusals.{nothing, plan_refusal}
 use Rattle.plan_index.specs.declared.PlanIndex.{PlanIndex}
@@ -38,7 +38,7 @@ list_entries-count-requires c =
     let i = c.requires in (
       record { plan = i.plan; passes = i.passes; indexed = i.indexed; logged = logs i.plan _ i.indexed _ _ _ _ i.all },
       length-replicate {A = ℕ} 12672 1,
-      ap length c.no_places-ends.ensures ∙ length-replicate {A = ℕ} 199 0,
+      length-replicate {A = ℕ} 199 0,
     )
 
 pub overflow_mul-count : goal.overflow_mul-count
