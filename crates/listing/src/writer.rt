@@ -15,10 +15,9 @@ ghost use Rattle.listing_count.specs.Parts.{totals_of, entries_text, frames_text
 ghost use Rattle.listing.specs.Answer.{written_of};
 
 use crate::frames::{put_frames, put_totals};
-use arrays::lesser_usize;
 use limits::NODES;
 use listing_bytes::put_word;
-use listing_count::{digits, exceeds};
+use listing_count::{Counts, digits, exceeds};
 use listing_entries::put_entries;
 use plan::Plan;
 use refusals::Refusal;
@@ -34,12 +33,13 @@ fn totals(w: &mut Writer<'_>, delay: u32, passed: &[u32])
 }
 
 // The line writer once it has the lines of a table.
-fn entries(w: &mut Writer<'_>, processes: usize, edges: usize, conditions: usize, table: &[u32])
-    requires { Fits w.old.out.now w.old.at (entries_text processes edges conditions table.now) }
-    ensures { w.new ≡ put_on w.old (entries_text processes edges conditions table.now) }
+fn entries(w: &mut Writer<'_>, counts: Counts, table: &[u32])
+    requires { Fits w.old.out.now w.old.at
+        (entries_text counts.processes counts.edges counts.conditions table.now) }
+    ensures { w.new ≡ put_on w.old (entries_text counts.processes counts.edges counts.conditions table.now) }
 {
     let at = w.at;
-    w.at = put_entries(&mut *w.out, at, processes, edges, conditions, table);
+    w.at = put_entries(&mut *w.out, at, counts, table);
 }
 
 // The line writer once it has the lines of a frame list.
@@ -54,22 +54,20 @@ fn frames(w: &mut Writer<'_>, list: &[u32])
 // Stores a listing that the lent bytes have room for, through the line writer.
 fn put_listing<'a>(
     out: &mut [u8],
-    processes: usize,
-    edges: usize,
-    conditions: usize,
+    counts: Counts,
     delay: u32,
     passed: &'a [u32],
     table: &'a [u32],
     list: &'a [u32],
 ) -> usize
-    requires { Fits out.old 0 (listing_of processes edges conditions delay passed.now table.now list.now)
-        × (length passed.now ≤ NODES) }
-    ensures { Put out.old out.new 0 result (listing_of processes edges conditions delay
+    requires { Fits out.old 0 (listing_of counts.processes counts.edges counts.conditions delay passed.now table.now
+        list.now) × (length passed.now ≤ NODES) }
+    ensures { Put out.old out.new 0 result (listing_of counts.processes counts.edges counts.conditions delay
         passed.now table.now list.now) }
 {
     let mut w = start(out, 0);
     totals(&mut w, delay, passed);
-    entries(&mut w, processes, edges, conditions, table);
+    entries(&mut w, counts, table);
     frames(&mut w, list);
     filled(w)
 }
@@ -101,26 +99,17 @@ fn write_counted<'a>(
         (words_listing (lines p) delay passed.now table.now frames.now))
         out.old }
 {
-    let nodes = lesser_usize(p.slots, NODES);
-    let counts = &passed[..nodes];
-    let processes = p.processes;
-    let edges = p.edges;
-    let conditions = p.conditions;
-    if exceeds(
-        out.len(),
-        processes,
-        edges,
-        conditions,
-        delay,
-        counts,
-        table,
-        frames,
-    ) {
+    let nodes = p.slots.min(NODES);
+    let passed = &passed[..nodes];
+    let counts = Counts {
+        processes: p.processes,
+        edges: p.edges,
+        conditions: p.conditions,
+    };
+    if exceeds(out.len(), counts, delay, passed, table, frames) {
         return Err(Refusal::LentRoom);
     }
-    Ok(put_listing(
-        out, processes, edges, conditions, delay, counts, table, frames,
-    ))
+    Ok(put_listing(out, counts, delay, passed, table, frames))
 }
 
 // Writes the listing of a table and a frame list, for a plan, a worst delay and the pass-over counts of the plan's

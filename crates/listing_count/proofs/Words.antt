@@ -9,7 +9,7 @@ use lib.ListN.{length, get_or, drop, length-drop, drop_of_length-le}
 use lib.Seq.{get_or-drop, drop-drop}
 use Rattle.lists.specs.Lists.{each}
 use Rattle.lists.proofs.Parts.{drop_one}
-use Rattle.model.specs.Table.{Entry, entries_of}
+use Rattle.model.specs.Table.{Entry, Frame, entries_of, frames_of}
 use Rattle.listing_count.specs.Parts.{passed_of, passed_text}
 
 entries_next : (ws : List ℕ) → 5 ≤ length ws →
@@ -44,6 +44,18 @@ pub entries_split : (line : Entry → List ℕ) (e rest : List ℕ) {ws : List �
     each line (entries_of ws)
     ≡ line (record { row = get_or e 0 0; known = get_or e 1 0; values = get_or e 2 0; tick = get_or e 3 0; place = get_or e 4 0 }) ++ each line (entries_of rest)
 entries_split line e rest p h = ap (λ (us : List ℕ). each line (entries_of us)) p ∙ ap (each line) (entries_front e rest h)
+
+-- and three a frame's
+frames_front : (f ws : List ℕ) → length f ≡ 3 → frames_of (f ++ ws) ≡ record { tick = get_or f 0 0; node = get_or f 1 0; used = get_or f 2 0 } ∷ frames_of ws
+frames_front [] ws h = absurd (omega arith)
+frames_front (a ∷ []) ws h = absurd (omega arith)
+frames_front (a ∷ b ∷ []) ws h = absurd (omega arith)
+frames_front (a ∷ b ∷ c ∷ []) ws h = refl
+frames_front (a ∷ b ∷ c ∷ d ∷ us) ws h = absurd (omega arith)
+
+pub frames_split : (line : Frame → List ℕ) (f rest : List ℕ) {ws : List ℕ} → ws ≡ f ++ rest → length f ≡ 3 →
+    each line (frames_of ws) ≡ line (record { tick = get_or f 0 0; node = get_or f 1 0; used = get_or f 2 0 }) ++ each line (frames_of rest)
+frames_split line f rest p h = ap (λ (us : List ℕ). each line (frames_of us)) p ∙ ap (each line) (frames_front f rest h)
 
 module _ (ws : List ℕ) (i : ℕ) where
   pub entries_from : i ≤ length ws → 4 < length ws - i →
