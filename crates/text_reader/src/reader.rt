@@ -10,7 +10,7 @@ use crate::line_runs::{read_conditions, read_edges, read_processes, read_slots};
 use limits::TEXT;
 use plan::{Plan, empty};
 use plan_refusals::{Refusal, refuse};
-use text_scanner::{PlanLineAt, plan_line};
+use text_scanner::plan_line;
 
 // What a text is read as: the plan, or a refusal and the empty plan.
 #[derive(Clone, Copy)]
@@ -64,7 +64,7 @@ pub fn read_plan(text: &[u8]) -> Read
     if TEXT < text.len() {
         return no_form();
     }
-    let PlanLineAt::Got(line, i) = plan_line(text, 0) else {
+    let Some((line, i)) = plan_line(text, 0) else {
         return no_form();
     };
     let mut plan = empty();
