@@ -1,7 +1,7 @@
 -- The passed lines read into numbers, the lines of entries and of frames read into words, and the whole listing, in the
 -- words of the grammar.
 -- Assumes nothing.
-use Rattle.std.specs.Prelude.{ℕ, ◌≤◌, ◌≡◌, Bool, true, false, ◌&&◌, List, leb, length, drop, Option, None, Some}
+use Rattle.std.specs.Prelude.{ℕ, ◌≤◌, ◌≡◌, Bool, true, false, ◌&&◌, List, leb, length, drop, Option, None, Some, Ok}
 use Rattle.limits.specs.Limits.{PRINTEDENTRIES, PRINTEDFRAMES, PRINTEDWORDS, PRINTEDFRAMEWORDS}
 use Rattle.lists.specs.Front.{front}
 use Rattle.model.specs.Table.{Entry, Frame, Result, entry_words, frame_words}
@@ -9,8 +9,6 @@ use Rattle.model.specs.ListingText.{rows_in_order, listed}
 use Rattle.text_grammar.specs.Parse.{Parsed, none, got, run_at}
 use Rattle.listing_grammar.specs.Parse.{entry_at, frame_at, passed_at, Read, no_reading, read, read_listing}
 use Rattle.listing_scanner.specs.declared.entries.Counts.{Counts}
-use Rattle.listing_reader.specs.declared.reader.ListingRead.{ListingRead}
-use Rattle.listing_reader.specs.declared.reader.ListingRead.TheVariants as Answers
 use Rattle.listing_reader.specs.declared.reader.Stated.{Stated}
 use Rattle.listing_reader.specs.Answer.{answer_of}
 
@@ -76,7 +74,7 @@ pub record Lines-stated (text : List ℕ) (counts : Counts) (table frames passed
     (s : Stated) : Type 0 where
   pub states : Result
   pub of_text : reading counts text ≡ read states
-  pub answer : Answers.Stated s ≡ answer_of (listed states)
+  pub answer : Ok s ≡ answer_of (listed states)
   pub few_words : s.words ≤ PRINTEDWORDS
   pub few_framewords : s.framewords ≤ PRINTEDFRAMEWORDS
   pub words : table-now ≡ front (entry_words states.entries) table
@@ -84,9 +82,9 @@ pub record Lines-stated (text : List ℕ) (counts : Counts) (table frames passed
   pub for_each : length states.passed ≡ counts.slots
   pub counted : passed-now ≡ front states.passed passed
 
--- what the answer for the whole says: nothing is read where it is 21
-abbrev pub LinesRead : List ℕ → Counts → List ℕ → List ℕ → List ℕ → List ℕ → List ℕ → List ℕ → ListingRead → Type 0
-LinesRead text counts table frames passed table-now frames-now passed-now (Answers.Stated s) =
+-- what the answer for the whole says: nothing is read where there is none
+abbrev pub LinesRead : List ℕ → Counts → List ℕ → List ℕ → List ℕ → List ℕ → List ℕ → List ℕ → Option Stated → Type 0
+LinesRead text counts table frames passed table-now frames-now passed-now (Some s) =
     Lines-stated text counts table frames passed table-now frames-now passed-now s
-LinesRead text counts table frames passed table-now frames-now passed-now (Answers.Refused n) =
-    (n ≡ 21) × (reading counts text ≡ no_reading)
+LinesRead text counts table frames passed table-now frames-now passed-now None =
+    reading counts text ≡ no_reading
