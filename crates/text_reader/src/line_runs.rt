@@ -4,7 +4,7 @@ ghost use Rattle.text_reader.specs.Run.{slots, processes, conditions, edges, Run
 
 use limits::{CONDITIONS, EDGES, PROCESSES, SLOTS};
 use plan::Plan;
-use text_scanner::{EdgeAt, NumberAt, ProcessAt, SlotAt, condition, edge, process, slot};
+use text_scanner::{condition, edge, process, slot};
 
 // A plan with the lines of one kind that were read, and the position behind them.
 #[derive(Clone, Copy)]
@@ -21,17 +21,15 @@ pub(crate) fn read_slots(text: &[u8], at: usize, before: Plan) -> Filled
     let mut plan = before;
     let mut count: usize = 0;
     let mut next = at;
-    loop {
-        let SlotAt::Got(x, i) = slot(text, next) else {
-            plan.slots = count;
-            return Filled { plan, next };
-        };
+    while let Some((x, i)) = slot(text, next) {
         if count < SLOTS {
             plan.slot[count] = x;
         }
         count += 1;
         next = i;
     }
+    plan.slots = count;
+    Filled { plan, next }
 }
 
 // The plan with the process lines from `at` on: all are counted, and the first 64 kept.
@@ -42,17 +40,15 @@ pub(crate) fn read_processes(text: &[u8], at: usize, before: Plan) -> Filled
     let mut plan = before;
     let mut count: usize = 0;
     let mut next = at;
-    loop {
-        let ProcessAt::Got(x, i) = process(text, next) else {
-            plan.processes = count;
-            return Filled { plan, next };
-        };
+    while let Some((x, i)) = process(text, next) {
         if count < PROCESSES {
             plan.process[count] = x;
         }
         count += 1;
         next = i;
     }
+    plan.processes = count;
+    Filled { plan, next }
 }
 
 // The plan with the condition lines from `at` on: all are counted, and the first 6 kept.
@@ -63,17 +59,15 @@ pub(crate) fn read_conditions(text: &[u8], at: usize, before: Plan) -> Filled
     let mut plan = before;
     let mut count: usize = 0;
     let mut next = at;
-    loop {
-        let NumberAt::Got(x, i) = condition(text, next) else {
-            plan.conditions = count;
-            return Filled { plan, next };
-        };
+    while let Some((x, i)) = condition(text, next) {
         if count < CONDITIONS {
             plan.condition[count] = x;
         }
         count += 1;
         next = i;
     }
+    plan.conditions = count;
+    Filled { plan, next }
 }
 
 // The plan with the edge lines from `at` on: all are counted, and the first 128 kept.
@@ -84,15 +78,13 @@ pub(crate) fn read_edges(text: &[u8], at: usize, before: Plan) -> Filled
     let mut plan = before;
     let mut count: usize = 0;
     let mut next = at;
-    loop {
-        let EdgeAt::Got(x, i) = edge(text, next) else {
-            plan.edges = count;
-            return Filled { plan, next };
-        };
+    while let Some((x, i)) = edge(text, next) {
         if count < EDGES {
             plan.edge[count] = x;
         }
         count += 1;
         next = i;
     }
+    plan.edges = count;
+    Filled { plan, next }
 }

@@ -7,7 +7,7 @@ use limits::TEXT;
 use plan::{Plan, empty};
 use plan_refusals::refuse;
 use refusals::Refusal;
-use text_scanner::{PlanLineAt, plan_line};
+use text_scanner::plan_line;
 
 // The plan that a text says, of any bytes, with refusals 1 to 9. It starts empty and is filled with one kind of line
 // after another.
@@ -17,7 +17,7 @@ pub fn read_plan(text: &[u8]) -> Result<Plan, Refusal>
     if TEXT < text.len() {
         return Err(Refusal::PlanText);
     }
-    let PlanLineAt::Got(line, i) = plan_line(text, 0) else {
+    let Some((line, i)) = plan_line(text, 0) else {
         return Err(Refusal::PlanText);
     };
     let mut plan = empty();
