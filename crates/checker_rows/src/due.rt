@@ -6,7 +6,7 @@ ghost use Rattle.log_rows.specs.Rows.{rows_of, with_comes};
 ghost use Rattle.checker_rows.specs.RowOrder.{RowOrder};
 ghost use Rattle.checker_rows.specs.Due.{edge_due_in, row_due_in, due_in, due_of, with_active};
 
-use arrays::no_rows;
+use arrays::zeros;
 use limits::ROWS;
 use log_queries::may_run;
 use log_rows::{COMES_AT, Rows, run_of, unmet_of};
@@ -48,7 +48,7 @@ fn rows_due(index: &Index, rows: &Rows) -> [u32; ROWS]
     requires { Bounded (laid index.now) × RowOrder (laid index.now) }
     ensures { result ≡ due_in (laid index.now) (rows_of rows.now) }
 {
-    let mut due = no_rows();
+    let mut due = zeros::<ROWS>();
     let end = rows_of(index);
     for r in 0..end {
         due[r] = row_due(index, rows, r);

@@ -7,7 +7,6 @@ ghost use Rattle.checker_table.specs.Finding.{first_number, finding_of, Early};
 
 use crate::first_refusal::first_found;
 use crate::verdict::Found;
-use arrays::greater;
 use checker_rows::{due_rows, met_rows, miscounts};
 use log_queries::last_end;
 use log_rows::empty_rows;
@@ -59,7 +58,7 @@ pub(crate) fn try_all(index: &Index, table: &[u32], combinations: u32) -> Found
     for c in 0u32..combinations {
         let found = try_combination(index, table, c);
         first = earlier(first, found.first);
-        delay = greater(delay, found.delay);
+        delay = delay.max(found.delay);
     }
     Found { first, delay }
 }

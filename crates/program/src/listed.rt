@@ -9,7 +9,7 @@ ghost use Rattle.refusals.specs.Numbers.{number_of, numbered};
 ghost use Rattle.text_lines.specs.Answer.{answer_of};
 ghost use Rattle.program.specs.Listing.{listed_in, ListsPlan};
 
-use arrays::{lesser_usize, no_counts};
+use arrays::zeros;
 use limits::{ENTRYFRAMEWORDS, NODES, PRINTEDFRAMEWORDS, PRINTEDWORDS};
 use listing::write_listing;
 use listing_count::exceeds;
@@ -33,7 +33,7 @@ fn refused_frames<'a>(
     ensures { Err (number_of result) ≡ answer_of (listed_in lent (length frames.now)
         (words_listing (lines p) delay passed.now table.now frames.now)) }
 {
-    let nodes = lesser_usize(p.slots, NODES);
+    let nodes = p.slots.min(NODES);
     let counts = &passed[..nodes];
     if exceeds(
         lent,
@@ -114,6 +114,6 @@ pub fn list_plan(text: &[u8], out: &mut [u8]) -> Result<usize, Refusal>
     let p = read_plan(text)?;
     let mut table = [1u32; PRINTEDWORDS];
     let mut frames = [1u32; ENTRYFRAMEWORDS];
-    let mut passed = no_counts();
+    let mut passed = zeros::<NODES>();
     list_planned(p, &mut table, &mut frames, &mut passed, out)
 }

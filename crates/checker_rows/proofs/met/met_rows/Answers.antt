@@ -16,8 +16,8 @@ loop-i-init c =
     let t : List ℕ = a.table.now in (
       omega arith,
       c.requires.fact_1.1,
-      left_start t counted a.c c.no_rows-count.ensures,
-      left_start t column a.c c.no_rows-known.ensures,
+      left_start t counted a.c c.zeros-count.ensures,
+      left_start t column a.c c.zeros-known.ensures,
       left_start t (ends (laid a.index.now).span) a.c c.requires.fact_2.0,
       left_start t placed a.c c.requires.fact_2.1,
       refl,

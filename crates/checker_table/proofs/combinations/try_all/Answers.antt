@@ -36,7 +36,7 @@ loop-c-preserved c =
       fewest_next (λ k. (found_by (laid a.index.now) a.table.now k).first) n k (first_number c.loop-c.first) u c.loop-c.invariant.1
           (c.earlier-first.ensures.0 ∙ ap (λ (f : Finding). min (first_number c.loop-c.first) f.first) e),
       most_taken (λ k. (found_by (laid a.index.now) a.table.now k).delay) (λ k. true) n k c.loop-c.delay u refl c.loop-c.invariant.2
-          (c.greater-delay.ensures ∙ ap (λ (f : Finding). max c.loop-c.delay f.delay) e),
+          (c.max-delay.ensures ∙ ap (λ (f : Finding). max c.loop-c.delay f.delay) e),
     )
 
 pub returns : goal.returns
