@@ -34,7 +34,7 @@ pub fn shared_node(p: &Plan) -> bool
     any_twice(&nodes[..p.slots])
 }
 
-// No pair seen yet.
+// No pair seen yet: a function, so that no goal holds the 4,096 zeros.
 fn no_marks() -> [u8; PAIRS]
     ensures { result ≡ replicate 4096 0 }
 {

@@ -1,17 +1,11 @@
-// A plan as arrays of numbers, one for each field of its lines, to be lent to loops. Past the plan's lines they hold 0.
+// A plan's processes and edges as arrays of numbers, one for each field of the lines, to be lent to loops. Past the
+// plan's lines they hold 0.
 ghost use Rattle.std.specs.Prelude.{◌≡◌};
-ghost use Rattle.plan.specs.Tables.{slots_table, processes_table, edges_table, kind_number, condition_number};
+ghost use Rattle.plan.specs.Tables.{processes_table, edges_table, kind_number, condition_number};
 ghost use Rattle.plan.specs.Tables.{any_number};
 
 use crate::{Edge, Plan, Process, Waits, When};
-use limits::{EDGES, PROCESSES, SLOTS};
-
-// by slot, in bus order
-#[derive(Clone, Copy)]
-pub struct SlotTable {
-    pub node: [u32; SLOTS],
-    pub bytes: [u32; SLOTS],
-}
+use limits::{EDGES, PROCESSES};
 
 // by process; `any` is 1 where the process waits for any
 #[derive(Clone, Copy)]
@@ -56,25 +50,11 @@ fn condition_number(w: When) -> u32
 {
     match w {
         When::Always => 0,
-        When::True(k) => k,
-        When::False(k) => k,
+        When::True(k) | When::False(k) => k,
     }
 }
 
-pub fn slot_table(p: Plan) -> SlotTable
-    ensures { result ≡ slots_table p }
-{
-    let n = p.slots.min(SLOTS);
-    let mut node = [0u32; SLOTS];
-    let mut bytes = [0u32; SLOTS];
-    for i in 0..n {
-        let s = p.slot[i];
-        node[i] = s.node;
-        bytes[i] = s.bytes;
-    }
-    SlotTable { node, bytes }
-}
-
+// The processes of a plan.
 pub fn process_table(p: Plan) -> ProcessTable
     ensures { result ≡ processes_table p }
 {
@@ -92,6 +72,7 @@ pub fn process_table(p: Plan) -> ProcessTable
     ProcessTable { node, ticks, any }
 }
 
+// The edges of a plan.
 pub fn edge_table(p: Plan) -> EdgeTable
     ensures { result ≡ edges_table p }
 {
