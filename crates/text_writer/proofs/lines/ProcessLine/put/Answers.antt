@@ -1,16 +1,16 @@
--- `text_writer::put_process` meets its contract: the labelled numbers are put, then the end of the line by the `waits`.
+-- The `put` of a process meets its contract: the labelled numbers are put, then the end of the line by the `waits`.
 use Rattle.model.specs.Plan.{waits_all, waits_any}
 use Rattle.text_lines.proofs.Puts.{put_then, counts_first, counts_rest}
 use Rattle.text_lines.specs.Label.{labelled}
 use Rattle.text_writer.proofs.LineParts.{waits_end, process_parts}
-use Rattle.text_writer.proofs.lines.put_process.Goals as goal
+use Rattle.text_writer.proofs.lines.ProcessLine.put.Goals as goal
 
 pub put_labelled-node-requires : goal.put_labelled-node-requires
-put_labelled-node-requires c = counts_first (labelled "(process (node " c.args.q.node) _ (rw process_parts at c.requires)
+put_labelled-node-requires c = counts_first (labelled "(process (node " c.args.self.node) _ (rw process_parts at c.requires)
 
 pub put_labelled-ticks-requires : goal.put_labelled-ticks-requires
 put_labelled-ticks-requires c =
-    counts_first (labelled ") (ticks " c.args.q.ticks) _ (counts_rest c.put_labelled-node.ensures _ (rw process_parts at c.requires))
+    counts_first (labelled ") (ticks " c.args.self.ticks) _ (counts_rest c.put_labelled-node.ensures _ (rw process_parts at c.requires))
 
 pub put_word-requires : goal.put_word-requires
 put_word-requires c =
