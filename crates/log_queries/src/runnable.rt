@@ -39,7 +39,7 @@ fn any_carry(index: &Index, rows: &Rows, a: usize, b: usize, u: u32) -> bool
     false
 }
 
-// Process i may run, by what may run of the processes before.
+// Process i may run, by what may run of the processes before. (Not one with `ready`: closures are no plainer.)
 fn runs(index: &Index, rows: &Rows, i: usize, u: u32) -> bool
     requires { (i < PROCESSES) × Bounded (laid index.now) }
     ensures { result ≡ may_run_in (laid index.now) (rows_of rows.now) u i }

@@ -1,4 +1,4 @@
-// The arrays of a plan index, read number by number.
+// The arrays of a plan index, read number by number. (A reader for each field, since each promises a bound of its own.)
 ghost use Rattle.std.specs.Prelude.{◌≡◌, ◌<◌, ◌≤◌, get_or};
 ghost use Rattle.limits.specs.Limits.{NODES, PROCESSES, CONDITIONS, EDGES, ROWS, STARTS, TICKS, BYTES};
 ghost use Rattle.plan_index.specs.Index.{laid, Bounded};
