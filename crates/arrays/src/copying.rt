@@ -8,9 +8,7 @@ pub fn copy_at(from: &[u32], to: &mut [u32], at: usize)
     requires { at + length from.now ≤ length to.old }
     ensures { to.new ≡ sets to.old at from.now }
 {
-    for i in 0..from.len() {
-        to[at + i] = from[i];
-    }
+    to[at..at + from.len()].copy_from_slice(from);
 }
 
 // Stores n numbers of `from`, from place `at` on, as the first of `to`.

@@ -1,7 +1,7 @@
 // Two numbers: the greater, the lesser, their difference; and a number as an index.
 ghost use Rattle.std.specs.Prelude.{◌≡◌, max, min, ◌-◌};
 
-// A number as an index of an array.
+// A number as an index of an array: usize has no From<u32>, so this one cast stands here.
 pub fn wide(x: u32) -> usize
     ensures { result ≡ x }
 {

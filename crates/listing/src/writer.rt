@@ -6,11 +6,13 @@ ghost use Rattle.limits.specs.Limits.{NODES};
 ghost use Rattle.model.specs.Listing.{refused_line, words_listing};
 ghost use Rattle.model.specs.Text.{bytes_after};
 ghost use Rattle.plan.specs.Memory.{lines};
+ghost use Rattle.refusals.specs.Numbers.{numbered};
+ghost use Rattle.text_lines.specs.Answer.{answer_of};
 ghost use Rattle.text_lines.specs.Line.{put_on};
 ghost use Rattle.text_lines.specs.Put.{Put};
 ghost use Rattle.listing_bytes.specs.Fits.{Fits};
 ghost use Rattle.listing_count.specs.Parts.{totals_of, entries_text, frames_text, listing_of};
-ghost use Rattle.listing.specs.Answer.{answer_of, written_of};
+ghost use Rattle.listing.specs.Answer.{written_of};
 
 use crate::frames::{put_frames, put_totals};
 use arrays::lesser_usize;
@@ -19,14 +21,8 @@ use listing_bytes::put_word;
 use listing_count::{digits, exceeds};
 use listing_entries::put_entries;
 use plan::Plan;
+use refusals::Refusal;
 use text_lines::{Writer, filled, start};
-
-// What a listing answers: how many bytes it wrote, or the number of a refusal.
-#[derive(Clone, Copy)]
-pub enum Listed {
-    Wrote(usize),
-    Refused(u32),
-}
 
 // The line writer once it has the line of the delay and the passed lines.
 fn totals(w: &mut Writer<'_>, delay: u32, passed: &[u32])
@@ -97,9 +93,9 @@ fn write_counted<'a>(
     table: &'a [u32],
     frames: &'a [u32],
     out: &mut [u8],
-) -> Listed
+) -> Result<usize, Refusal>
     requires { length passed.now ≡ NODES }
-    ensures answer { result ≡ answer_of (written_of (length out.old)
+    ensures answer { numbered result ≡ answer_of (written_of (length out.old)
         (words_listing (lines p) delay passed.now table.now frames.now)) }
     ensures bytes { out.new ≡ bytes_after (written_of (length out.old)
         (words_listing (lines p) delay passed.now table.now frames.now))
@@ -120,15 +116,15 @@ fn write_counted<'a>(
         table,
         frames,
     ) {
-        return Listed::Refused(10);
+        return Err(Refusal::LentRoom);
     }
-    Listed::Wrote(put_listing(
+    Ok(put_listing(
         out, processes, edges, conditions, delay, counts, table, frames,
     ))
 }
 
 // Writes the listing of a table and a frame list, for a plan, a worst delay and the pass-over counts of the plan's
-// nodes, which stand at the front of `passed`, to the front of the lent bytes.
+// nodes, which stand at the front of `passed`, to the front of the lent bytes: how many bytes were written.
 // Refusal 10 leaves the bytes unchanged. A row that the plan lacks has no line, and stray last words are ignored.
 pub fn write_listing<'a>(
     p: Plan,
@@ -137,8 +133,8 @@ pub fn write_listing<'a>(
     table: &'a [u32],
     frames: &'a [u32],
     out: &mut [u8],
-) -> Listed
-    ensures answer { result ≡ answer_of (written_of (length out.old)
+) -> Result<usize, Refusal>
+    ensures answer { numbered result ≡ answer_of (written_of (length out.old)
         (words_listing (lines p) delay passed.now table.now frames.now)) }
     ensures bytes { out.new ≡ bytes_after (written_of (length out.old)
         (words_listing (lines p) delay passed.now table.now frames.now))
@@ -147,14 +143,15 @@ pub fn write_listing<'a>(
     write_counted(p, delay, passed, table, frames, out)
 }
 
-// Writes the line of a refusal to the front of the lent bytes. Refusal 10 leaves the bytes unchanged.
-pub fn write_refusal(number: u32, out: &mut [u8]) -> Listed
-    ensures answer { result ≡ answer_of (written_of (length out.old) (refused_line number)) }
+// Writes the line of a refusal to the front of the lent bytes: how many bytes were written. Refusal 10 leaves the bytes
+// unchanged.
+pub fn write_refusal(number: u32, out: &mut [u8]) -> Result<usize, Refusal>
+    ensures answer { numbered result ≡ answer_of (written_of (length out.old) (refused_line number)) }
     ensures bytes { out.new ≡ bytes_after (written_of (length out.old) (refused_line number))
         out.old }
 {
     if out.len() < 11 + digits(number) {
-        return Listed::Refused(10);
+        return Err(Refusal::LentRoom);
     }
-    Listed::Wrote(put_refusal(out, number))
+    Ok(put_refusal(out, number))
 }

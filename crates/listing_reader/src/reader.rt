@@ -7,13 +7,13 @@ ghost use Rattle.listing_scanner.specs.Lines.{Few};
 ghost use Rattle.listing_reader.specs.Answer.{Counted, SomePlan, ReadsListing};
 ghost use Rattle.listing_reader.specs.Runs.{LinesRead};
 
-use crate::entries::{EntriesAt, read_entries};
-use crate::frames::{FramesAt, read_frames};
-use crate::passed::{PassedAt, read_passed};
+use crate::entries::read_entries;
+use crate::frames::read_frames;
+use crate::passed::read_passed;
 use arrays::copy_part;
 use limits::{NODES, PRINTEDFRAMEWORDS, PRINTEDWORDS};
 use listing_scanner::Counts;
-use text_scanner::{NumberAt, closed};
+use text_scanner::closed;
 
 // What a listing states: how many words its entries and its frames have, and its delay. These words, and the counts of
 // its passed lines, stand in what the caller lends.
@@ -44,16 +44,16 @@ fn read_lines(
     ensures { LinesRead text.now counts table.old frames.old
         passed.old table.new frames.new passed.new result }
 {
-    let NumberAt::Got(delay, i) = closed(text, 0, b"(delay ", b"\n") else {
+    let Some((delay, i)) = closed(text, 0, b"(delay ", b"\n") else {
         return ListingRead::Refused(21);
     };
-    let PassedAt::Got(j) = read_passed(text, i, counts.slots, passed) else {
+    let Some(j) = read_passed(text, i, counts.slots, passed) else {
         return ListingRead::Refused(21);
     };
-    let EntriesAt::Got(entries, k) = read_entries(text, j, counts, table) else {
+    let Some((entries, k)) = read_entries(text, j, counts, table) else {
         return ListingRead::Refused(21);
     };
-    let FramesAt::Got(used, end) = read_frames(text, k, frames) else {
+    let Some((used, end)) = read_frames(text, k, frames) else {
         return ListingRead::Refused(21);
     };
     if end < text.len() {

@@ -6,7 +6,7 @@ ghost use Rattle.plan_index.specs.Index.{laid, Bounded};
 ghost use Rattle.log_rows.specs.Rows.{rows_of, with_run};
 ghost use Rattle.log_queries.specs.Queries.{edges_at, may_carry, may_run_in, running, running_from};
 
-use crate::readiness::{never, number};
+use crate::readiness::never;
 use limits::PROCESSES;
 use log_rows::{RUN_AT, Rows, put_run};
 use plan_index::{Index, asany_of, into_of, intofirst_of, processes_of};
@@ -57,9 +57,7 @@ fn clear_run(rows: &mut [u32])
     requires { PROCESSES ≤ length rows.old }
     ensures { rows_of rows.new ≡ with_run (replicate 64 0) (rows_of rows.old) }
 {
-    for i in 0..PROCESSES {
-        rows[RUN_AT + i] = 0;
-    }
+    rows[RUN_AT..RUN_AT + PROCESSES].fill(0);
 }
 
 // Works out which processes may run, upward: 1 where a process may, 0 where it is known inactive, and 0 past the last.
@@ -71,7 +69,7 @@ pub fn may_run(index: &Index, u: u32, rows: &mut Rows)
     clear_run(rows);
     let processes = processes_of(index);
     for i in 0..processes {
-        let x = number(runs(index, rows, i, u));
+        let x = u32::from(runs(index, rows, i, u));
         put_run(rows, i, x);
     }
 }

@@ -3,6 +3,7 @@
 -- below a bound).
 pub mod HeldLines
 pub mod Counted
+pub mod Taken
 pub mod TestsOnLines
 pub mod RefusalOrder
 pub mod Below

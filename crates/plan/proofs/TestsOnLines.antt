@@ -10,32 +10,29 @@ use mathlib.Core.List.{List, [], ◌∷◌, map, Memᴰ as In}
 use Prim.Native.Nat.{ℕ, ◌+◌, ◌*◌, ◌≤◌, ◌<◌}
 use native.Mathlib.Omega.{arith}
 use lib.Dec.{eqb, leb, ltb}
-use lib.ListN.{length, get_or}
+use lib.ListN.{length, get_or, take}
 use borrow.Author.Tests.{ltb-false, leb-false, eqb-true, eq-eqb}
+use Rattle.std.proofs.lemmas.List.{get_or-take, length-take-le}
+use Rattle.lists.proofs.Keep.{map_upfrom}
 use Rattle.lists.specs.Lists.{any, below, repeated, earlier}
 use Rattle.lists.proofs.Tests.{two, both, join, neither, same_test}
-use Rattle.lists.proofs.Members.{any_same, any_of_map, any_or, map_in, below_in}
+use Rattle.lists.proofs.Members.{none_at, any_same, any_of_map, any_or, map_in, below_in}
 use Rattle.lists.proofs.Marks.{repeated_earlier}
 use Rattle.lists.proofs.Places.{list_below, any_places, repeated_places}
-use Rattle.model.specs.Plan.{Slot, Edge, When, always, on, process, edge, decider, edges}
+use Rattle.model.specs.Plan.{Lines, Slot, Edge, When, always, on, process, edge, decider, edges}
 use Rattle.model.specs.Bus.{slot_among, slot_of}
 use Rattle.model.specs.Refusals.{outside, wrong_counts, wrong_plan, wrong_slot, wrong_edge, wrong_ticks, wrong_sizes, no_node, wrong_nodes, no_process, wrong_deciders, wrong_ends, twin_edges, undecided, wrong_when, too_long}
 use Rattle.plan.specs.declared.When as w
 use Rattle.plan.specs.declared.When.TheVariants.{Always, True, False}
 use Rattle.plan.specs.declared.Plan.{Plan}
+pub use Rattle.plan.specs.Bounds.{Few, Ended}
 use Rattle.plan.specs.Memory.{line_of, when_of, process_of, edge_of, no_slot, no_edge, counted, lines}
 use Rattle.plan.specs.Memory as memory
 use Rattle.plan.specs.Kinds.{kind_of, condition_of}
 use Rattle.plan.specs.Tables.{kind_number, condition_number, slots_table, processes_table, edges_table}
 use Rattle.plan.specs.Tests.{at, counts_test, outside_at, sizes_test, not_below_at, nodes_test, deciders_test, unordered_at, ends_test, key, undecided_by, wrong_when_at, slot_bytes, longer, too_long_at}
 use Rattle.plan.proofs.Counted.{counted_length, counted_at, column}
-
--- what refusal 2 leaves
-pub record Few (p : Plan) : Type 0 where
-  pub slots : p.slots ≤ 8
-  pub processes : p.processes ≤ 64
-  pub conditions : p.conditions ≤ 6
-  pub edges : p.edges ≤ 128
+use Rattle.plan.proofs.Taken.{taken}
 
 inside : (lo hi x : ℕ) → outside lo hi x ≡ false → x ≤ hi
 unfolding outside
@@ -73,10 +70,10 @@ same_key a b c d ha hb hc hd =
     (λ e. let r = both (eqb a c) (eqb b d) e in let x = eqb-true a c r.0 in let y = eqb-true b d r.1 in eq-eqb (a * 64 + b) (c * 64 + d) (omega arith))
     (λ e. let q : a * 64 + b ≡ c * 64 + d = eqb-true (a * 64 + b) (c * 64 + d) e in join (eqb a c) (eqb b d) (eq-eqb a c (omega arith)) (eq-eqb b d (omega arith)))
 
-abbrev edge_key : Edge → ℕ
+abbrev pub edge_key : Edge → ℕ
 edge_key e = e.from * 64 + e.to
 
-twins : (es : List Edge) → ((e : Edge) → In e es → (e.from < 64) × (e.to < 64)) → repeated (map edge_key es) ≡ twin_edges es
+pub twins : (es : List Edge) → ((e : Edge) → In e es → (e.from < 64) × (e.to < 64)) → repeated (map edge_key es) ≡ twin_edges es
 unfolding repeated twin_edges
 twins [] h = refl
 twins (e ∷ es) h =
@@ -86,6 +83,19 @@ twins (e ∷ es) h =
     ∙ any_same (λ f. eqb (edge_key e) (edge_key f)) (λ f. eqb e.from f.from && eqb e.to f.to) es
     (λ f m. let v = h f (there m) in sym (same_key e.from e.to f.from f.to u.0 u.1 v.0 v.1)) in
     λ j. first j || twins es (λ f m. h f (there m)) j
+
+-- what refusal 6 leaves
+pub ended : (p : Lines) → any (wrong_ends p) p.edges ≡ false → Ended p
+unfolding wrong_ends no_process
+ended p h = record { from = λ i l. (ends i l).0; to = λ i l. (ends i l).1 }
+  where
+    ends : (i : ℕ) → i < length p.edges → ((edge p i).from < length p.processes) × ((edge p i).to < length p.processes)
+    ends i l =
+        let e = edge p i in
+        let n : ℕ = length p.processes in
+        let u = neither (leb n e.from || leb n e.to) (leb e.to e.from) (none_at (wrong_ends p) p.edges i _ h l) in
+        let v = neither (leb n e.from) (leb n e.to) u.0 in
+        (leb-false n e.from v.0, leb-false n e.to v.1)
 
 module _ (p : Plan) where
   pub slots_length : length (lines p).slots ≡ p.slots
@@ -113,6 +123,25 @@ module _ (p : Plan) where
   pub decider_at : (k : ℕ) → k < p.conditions → at p.condition k ≡ decider (lines p) k
   unfolding lines
   decider_at k l = sym (counted_at (λ i. i) 0 p.conditions p.condition k 0 l)
+
+  -- the parts of the arrays that the counts name are the lines
+  pub slots_taken : p.slots ≤ length p.slot → map memory.slot_of (take p.slots p.slot) ≡ (lines p).slots
+  unfolding lines
+  slots_taken l = taken memory.slot_of no_slot p.slots p.slot l
+
+  pub processes_taken : p.processes ≤ length p.process → map process_of (take p.processes p.process) ≡ (lines p).processes
+  unfolding lines
+  processes_taken l = taken process_of memory.no_process p.processes p.process l
+
+  pub conditions_taken : p.conditions ≤ length p.condition → take p.conditions p.condition ≡ (lines p).conditions
+  unfolding lines counted
+  conditions_taken l =
+      sym (list_below 0 (take p.conditions p.condition) p.conditions (length-take-le p.conditions p.condition l))
+      ∙ map_upfrom (at (take p.conditions p.condition)) (at p.condition) 0 p.conditions (λ k u v. get_or-take p.conditions p.condition k 0 (omega arith))
+
+  pub edges_taken : p.edges ≤ length p.edge → map edge_of (take p.edges p.edge) ≡ (lines p).edges
+  unfolding lines
+  edges_taken l = taken edge_of no_edge p.edges p.edge l
 
   deciders_twice : any (earlier (at p.condition)) (below p.conditions) ≡ repeated (lines p).conditions
   unfolding lines counted

@@ -3,7 +3,8 @@
 use Rattle.std.specs.Prelude.{ℕ, ◌+◌, ◌*◌, Bool, false, not, ◌&&◌, ◌||◌, List, [], ◌∷◌, eqb, leb, ltb, get_or, if◌then◌else◌}
 use Rattle.limits.specs.Limits.{TICKS}
 use Rattle.lists.specs.Lists.{any, below, earlier}
-use Rattle.model.specs.Plan.{PlanLine}
+use Rattle.model.specs.Plan.{Lines, PlanLine, Edge, process}
+use Rattle.model.specs.Bus.{slot_of}
 use Rattle.model.specs.Refusals.{outside, wrong_plan}
 
 -- number i of an array
@@ -68,3 +69,8 @@ longer slot room slots a b bytes = not (eqb a b) && ltb (slot_bytes slot room a 
 
 unfoldable pub too_long_at : List ℕ → List ℕ → List ℕ → ℕ → List ℕ → List ℕ → List ℕ → ℕ → Bool
 too_long_at node slot room slots from to bytes i = longer slot room slots (at node (at from i)) (at node (at to i)) (at bytes i)
+
+-- 9: the message of an edge is between nodes, and longer than the slot of its sender
+unfoldable pub too_long_message : Lines → Edge → Bool
+too_long_message p e =
+    not (eqb (process p e.from).node (process p e.to).node) && ltb (slot_of p (process p e.from).node).bytes e.bytes

@@ -6,13 +6,16 @@
 
 mod any_tests;
 mod fields;
+mod held;
 mod tables;
 
 ghost use Rattle.std.specs.Prelude.{◌≡◌};
 ghost use Rattle.plan.specs.Memory.{empty_plan};
 
-pub use any_tests::{any_not_below, any_outside, any_repeat, any_twice, any_unordered};
-pub use fields::{is_longer, is_undecided, wrong_counts, wrong_plan_line};
+pub use any_tests::{any_twice, shared_node, twin_edges};
+pub use fields::{
+    has_long_message, has_wrong_ends, has_wrong_when, is_outside, wrong_counts, wrong_plan_line,
+};
 use limits::{CONDITIONS, EDGES, PROCESSES, SLOTS};
 pub use tables::{EdgeTable, ProcessTable, SlotTable, edge_table, process_table, slot_table};
 

@@ -6,7 +6,7 @@ ghost use Rattle.plan.specs.Tests.{at};
 ghost use Rattle.plan_layout.specs.LineArrays.{knownby_of, as_any_of, receiver_of, as_any_by_process};
 ghost use Rattle.plan_layout.specs.LineArrays.{known_rows_by_edge, remote_by_edge};
 
-use arrays::{no_edges, no_processes, wide};
+use arrays::{wide, zeros};
 use limits::{EDGES, PROCESSES, STARTS};
 use plan::EdgeTable;
 
@@ -14,13 +14,7 @@ use plan::EdgeTable;
 fn counts_as_any(any: u32, first: u32, end: u32) -> u32
     ensures { result ≡ as_any_of any first end }
 {
-    if any == 0 {
-        return 0;
-    }
-    if first < end {
-        return 1;
-    }
-    0
+    u32::from(any != 0 && first < end)
 }
 
 // Whether each process counts as `any`.
@@ -32,7 +26,7 @@ pub(crate) fn counted_as_any(
     requires { processes ≤ PROCESSES }
     ensures { result ≡ as_any_by_process any first processes }
 {
-    let mut asany = no_processes();
+    let mut asany = zeros::<PROCESSES>();
     for i in 0..processes {
         asany[i] = counts_as_any(any[i], first[i], first[i + 1]);
     }
@@ -56,7 +50,7 @@ pub(crate) fn known_rows(e: EdgeTable, edges: usize, conditionrow: u32) -> [u32;
     requires fact_3 { ((k : ℕ) → at e.condition k < CONDITIONS) }
     ensures { result ≡ known_rows_by_edge e.kind e.condition e.from edges conditionrow }
 {
-    let mut knownby = no_edges();
+    let mut knownby = zeros::<EDGES>();
     for k in 0..edges {
         let row = conditionrow + e.condition[k];
         knownby[k] = known_row(e.kind[k], e.from[k], row);
@@ -84,7 +78,7 @@ pub(crate) fn remotes(node: [u32; PROCESSES], e: EdgeTable, edges: usize) -> [u3
     requires fact_4 { ((i : ℕ) → at node i < NODES) }
     ensures { result ≡ remote_by_edge node e.from e.to edges }
 {
-    let mut remote = no_edges();
+    let mut remote = zeros::<EDGES>();
     for k in 0..edges {
         let i = wide(e.from[k]);
         let j = wide(e.to[k]);

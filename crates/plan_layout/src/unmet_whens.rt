@@ -14,10 +14,7 @@ use plan_index::{Index, condition_of, edges_of, kind_of};
 fn differ(a: u32, b: u32) -> u32
     ensures { result ≡ differs a b }
 {
-    if a == b {
-        return 0;
-    }
-    1
+    u32::from(a != b)
 }
 
 // The values of conditions 0 to 5 in a combination: 1 for true, 0 for false.
@@ -28,7 +25,7 @@ fn values(combination: u32) -> [u32; CONDITIONS]
     let mut rest = combination;
     for k in 0..CONDITIONS {
         value[k] = rest % 2;
-        rest = rest / 2;
+        rest /= 2;
     }
     value
 }

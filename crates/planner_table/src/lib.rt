@@ -23,6 +23,7 @@ use plan::Plan;
 use plan_index::{Index, conditions_of, rows_of, slots_of};
 use plan_layout::of_plan;
 use planner_combinations::{Totals, how_many, plan_combinations};
+use refusals::Refusal;
 use table_entries::all_entries;
 use table_frames::{collect, write_both};
 
@@ -33,13 +34,6 @@ pub struct Made {
     pub words: usize,
     pub framewords: usize,
     pub delay: u32,
-}
-
-// The planner's answer: what it made, or the number of the refusal.
-#[derive(Clone, Copy)]
-pub enum Planned {
-    Made(Made),
-    Refused(u32),
 }
 
 // The entries of the table as numbers in `list`, row r's from place ends[r] up to place ends[r + 1]. How many there are
@@ -84,7 +78,7 @@ fn write_all(
     table: &mut [u32],
     frames: &mut [u32],
     passed: &mut [u32; NODES],
-) -> Planned
+) -> Result<Made, Refusal>
     requires { SomePlans (laid index.now) t comes.now place.now since.now }
     ensures { (p : Lines) → plan_refusal p ≡ nothing → Indexed p (laid index.now) →
         PlannedAll p (laid index.now).span t comes.now place.now
@@ -96,19 +90,19 @@ fn write_all(
     let mut ends = [0u32; ROWENDS];
     let count = list_entries(index, comes, place, since, &mut list, &mut ends);
     if table.len() < 5 * count {
-        return Planned::Refused(10);
+        return Err(Refusal::LentRoom);
     }
     let mut out = [1u64; ENTRIES];
     let used = collect(index, &list, &ends, &mut out);
     if write_both(&list, &ends, rows, &out, used, table, frames) {
         store_counts(t, slots_of(index), passed);
-        return Planned::Made(Made {
+        return Ok(Made {
             words: 5 * count,
             framewords: 3 * used,
             delay: t.delay,
         });
     }
-    Planned::Refused(11)
+    Err(Refusal::FrameRoom)
 }
 
 // Plans a plan in which refusals 2 to 9 find nothing: the table, the frame list, and the pass-over count of each node,
@@ -119,7 +113,7 @@ pub fn plan_accepted(
     table: &mut [u32],
     frames: &mut [u32],
     passed: &mut [u32; NODES],
-) -> Planned
+) -> Result<Made, Refusal>
     requires { plan_refusal (lines p) ≡ nothing }
     ensures { Answers (lines p) result table.old frames.old passed.old
         table.new frames.new passed.new }

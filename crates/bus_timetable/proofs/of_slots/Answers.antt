@@ -30,9 +30,6 @@ bounds-ticks-n c = let f = c.requires.0.few in omega arith
 pub bounds-room-n : goal.bounds-room-n
 bounds-room-n c = let f = c.requires.0.few in omega arith
 
-pub overflow_add-n : goal.overflow_add-n
-overflow_add-n c = let f = c.requires.0.few in omega arith
-
 pub loop-n-preserved : goal.loop-n-preserved
 loop-n-preserved c =
     let a = c.args in

@@ -1,6 +1,6 @@
 -- `bus_timetable::of_slots` meets its contract: before turn n the first n of each array are filled.
 use mathlib.Core.Path.{◌≡◌}
-use Prim.Native.Nat.{◌≤◌, ◌-◌}
+use Prim.Native.Nat.{◌≤◌}
 use Rattle.lists.specs.Lists.{below, fill}
 use Rattle.plan.specs.Tests.{slot_bytes}
 use Rattle.bus_timetable.specs.Bus.{ticks_of, ticks_before}

@@ -17,12 +17,6 @@ doubled-s-requires c =
     let k : 2 ^ l.i ≤ 1073741824 = pow-le-pow_right {n = 2} (omega arith) {i = l.i} {j = 30} (omega (arith, c.loop-i-test)) in
     (omega (arith, l.invariant.1.rest, mod-lt (2 ^ l.i - 1) p.0), p.1, omega (arith, l.invariant.1.whole, div-le_self (2 ^ l.i - 1) a.round, k, one-le-pow l.i 2 (omega arith)))
 
-pub overflow_add-i : goal.overflow_add-i
-overflow_add-i c = omega (arith, c.loop-i-test)
-
-pub loop-i-smaller : goal.loop-i-smaller
-loop-i-smaller c = omega (arith, c.loop-i-test)
-
 pub loop-i-preserved : goal.loop-i-preserved
 loop-i-preserved c =
     let a = c.args in

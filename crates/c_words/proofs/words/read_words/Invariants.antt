@@ -1,6 +1,6 @@
 -- `c_words::read_words` meets its contract: before turn i the first i words from place `from` on are stored.
 use mathlib.Core.Path.{◌≡◌}
-use Prim.Native.Nat.{◌≤◌, ◌-◌}
+use Prim.Native.Nat.{◌≤◌}
 use lib.ListN.{length, take, drop}
 use lib.Seq.{sets}
 use Rattle.model.specs.Firmware.{words_of}

@@ -1,6 +1,6 @@
 -- `c_words::put_some` meets its contract: before turn i the first i bytes of the words are stored.
 use mathlib.Core.Path.{◌≡◌}
-use Prim.Native.Nat.{◌≤◌, ◌-◌}
+use Prim.Native.Nat.{◌≤◌}
 use lib.ListN.{take}
 use lib.Seq.{sets}
 use Rattle.c_words.specs.Bytes.{bytes_of}

@@ -1,6 +1,6 @@
 -- `kernel::put_edges` meets its contract: before turn i the rows of the first i edges have their nodes.
 use mathlib.Core.Path.{◌≡◌}
-use Prim.Native.Nat.{◌+◌, ◌≤◌, ◌-◌}
+use Prim.Native.Nat.{◌+◌, ◌≤◌}
 use Rattle.kernel.specs.Finding.{nodes_to}
 use Rattle.kernel.proofs.nodes.put_edges.Given as goal
 

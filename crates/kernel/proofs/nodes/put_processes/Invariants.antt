@@ -1,6 +1,6 @@
 -- `kernel::put_processes` meets its contract: before turn i the first i rows have their nodes.
 use mathlib.Core.Path.{◌≡◌}
-use Prim.Native.Nat.{◌≤◌, ◌-◌}
+use Prim.Native.Nat.{◌≤◌}
 use Rattle.kernel.specs.Finding.{nodes_to}
 use Rattle.kernel.proofs.nodes.put_processes.Given as goal
 

@@ -1,6 +1,5 @@
 -- `kernel::first_fitting` meets its contract: before turn i, what the search from i on finds is the answer.
 use mathlib.Core.Path.{◌≡◌}
-use Prim.Native.Nat.{◌-◌}
 use lib.ListN.{drop}
 use Rattle.model.specs.Table.{entries_of}
 use Rattle.kernel.specs.Finding.{fits_by, find_by}

@@ -1,5 +1,4 @@
 -- `column` gives what the grammar reads: condition by condition, and the bracket behind them.
-use Prim.Native.Nat.{◌-◌}
 use Rattle.listing_scanner.proofs.ColumnSteps.{Reading}
 use Rattle.listing_scanner.proofs.columns.column.Given as goal
 

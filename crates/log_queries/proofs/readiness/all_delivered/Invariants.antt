@@ -1,6 +1,5 @@
 -- `log_queries::all_delivered` meets its contract: the edges from place j on give the whole answer.
 use mathlib.Core.Path.{◌≡◌}
-use Prim.Native.Nat.{◌-◌}
 use Rattle.lists.specs.Lists.{all}
 use Rattle.plan_index.specs.Index.{laid}
 use Rattle.log_rows.specs.Rows.{rows_of}

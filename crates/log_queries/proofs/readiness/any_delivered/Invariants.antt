@@ -1,7 +1,6 @@
 -- `log_queries::any_delivered` meets its contract: whether one has delivered before place j, and the edges from j on,
 -- give the whole answer.
 use mathlib.Core.Path.{◌≡◌}
-use Prim.Native.Nat.{◌-◌}
 use Rattle.plan_index.specs.Index.{laid}
 use Rattle.log_rows.specs.Rows.{rows_of}
 use Rattle.log_queries.specs.Queries.{edges_at, has_delivered, never_delivers, settles}

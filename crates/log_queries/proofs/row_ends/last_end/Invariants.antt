@@ -1,6 +1,5 @@
 -- `log_queries::last_end` meets its contract: the greatest so far and what is left give the whole.
 use mathlib.Core.Bool.{true}
-use Prim.Native.Nat.{◌-◌}
 use lib.ListN.{get_or}
 use Rattle.lists.proofs.Greatest.{Most}
 use Rattle.log_rows.specs.Rows.{rows_of}

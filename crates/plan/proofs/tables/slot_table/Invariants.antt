@@ -1,6 +1,6 @@
 -- `plan::tables::slot_table` meets its contract: before turn i the first i of each array are filled.
 use mathlib.Core.Path.{◌≡◌}
-use Prim.Native.Nat.{◌≤◌, ◌-◌, min}
+use Prim.Native.Nat.{◌≤◌, min}
 use lib.ListN.{get_or}
 use Rattle.lists.specs.Lists.{fill}
 use Rattle.plan.specs.Memory.{no_slot}

@@ -1,6 +1,6 @@
 -- `plan_layout::counted_as_any` meets its contract: before turn i the first i are filled.
 use mathlib.Core.Path.{◌≡◌}
-use Prim.Native.Nat.{◌≤◌, ◌-◌, ◌+◌}
+use Prim.Native.Nat.{◌≤◌, ◌+◌}
 use Rattle.lists.specs.Lists.{fill}
 use Rattle.plan.specs.Tests.{at}
 use Rattle.plan_layout.specs.LineArrays.{as_any_of}

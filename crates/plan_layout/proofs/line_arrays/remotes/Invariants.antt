@@ -1,6 +1,6 @@
 -- `plan_layout::remotes` meets its contract: before turn k the first k are filled.
 use mathlib.Core.Path.{◌≡◌}
-use Prim.Native.Nat.{◌≤◌, ◌-◌}
+use Prim.Native.Nat.{◌≤◌}
 use Rattle.lists.specs.Lists.{fill}
 use Rattle.plan.specs.Tests.{at}
 use Rattle.plan_layout.specs.LineArrays.{receiver_of}

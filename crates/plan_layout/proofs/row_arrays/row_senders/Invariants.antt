@@ -1,6 +1,6 @@
 -- `plan_layout::row_senders` meets its contract: before turn r the first r are filled.
 use mathlib.Core.Path.{◌≡◌}
-use Prim.Native.Nat.{◌≤◌, ◌-◌}
+use Prim.Native.Nat.{◌≤◌}
 use Rattle.lists.specs.Lists.{fill}
 use Rattle.plan.specs.Tests.{at}
 use Rattle.plan_layout.specs.RowArrays.{process_of_row}

@@ -1,7 +1,7 @@
 -- `plan_layout::find_unmet` meets its contract: before turn e the first e are filled, and where there is no `when` the 0
 -- stands already.
 use mathlib.Core.Path.{◌≡◌}
-use Prim.Native.Nat.{ℕ, ◌≤◌, ◌-◌}
+use Prim.Native.Nat.{ℕ, ◌≤◌}
 use Rattle.lists.specs.Lists.{fill}
 use Rattle.plan.specs.Tests.{at}
 use Rattle.plan_index.specs.declared.PlanIndex.{PlanIndex}

@@ -1,7 +1,7 @@
 -- `plan_layout::values` meets its contract: before turn k the first k are filled, and the rest is the combination
 -- without its lowest k bits.
 use mathlib.Core.Path.{◌≡◌}
-use Prim.Native.Nat.{◌/◌, ◌^◌, ◌≤◌, ◌-◌}
+use Prim.Native.Nat.{◌/◌, ◌^◌, ◌≤◌}
 use Rattle.lists.specs.Lists.{fill}
 use Rattle.plan_layout.specs.Unmet.{value_of}
 use Rattle.plan_layout.proofs.unmet_whens.values.Given as goal

@@ -1,6 +1,6 @@
 -- `plan_order::sender_keys` meets its contract: before turn e the first e are filled.
 use mathlib.Core.Path.{◌≡◌}
-use Prim.Native.Nat.{◌≤◌, ◌-◌}
+use Prim.Native.Nat.{◌≤◌}
 use Rattle.lists.specs.Lists.{fill}
 use Rattle.plan.specs.Tests.{at}
 use Rattle.plan_order.specs.Weights.{sender_key}

@@ -1,5 +1,5 @@
 -- `plan_order::greatest_after` meets its contract: with what is left, the greatest so far gives the whole.
-use Prim.Native.Nat.{◌≤◌, ◌-◌}
+use Prim.Native.Nat.{◌≤◌}
 use lib.Dec.{eqb}
 use Rattle.lists.proofs.Greatest.{Most}
 use Rattle.plan.specs.Tests.{at}

@@ -1,6 +1,6 @@
 -- `table_entries::write_row` meets its contract: before turn i what is left to store gives the whole.
 use mathlib.Core.Path.{◌≡◌}
-use Prim.Native.Nat.{◌*◌, ◌-◌}
+use Prim.Native.Nat.{◌*◌}
 use lib.ListN.{length}
 use lib.Seq.{sets, slice}
 use Rattle.lists.specs.Lists.{each}

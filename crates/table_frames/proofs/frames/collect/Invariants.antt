@@ -1,5 +1,4 @@
 -- `table_frames::collect` meets its contract: what is left of the rows gives the whole.
-use Prim.Native.Nat.{◌-◌}
 use Rattle.plan_index.specs.Index.{laid}
 use Rattle.table_frames.proofs.Collecting.{RowsLeft}
 use Rattle.table_frames.proofs.frames.collect.Given as goal

@@ -1,5 +1,5 @@
 -- `text_writer::put_conditions` meets its contract: before turn i the first i condition lines are put.
-use Prim.Native.Nat.{◌≤◌, ◌-◌}
+use Prim.Native.Nat.{◌≤◌}
 use Rattle.model.specs.Text.{condition_line}
 use Rattle.text_lines.specs.Put.{Put}
 use Rattle.text_writer.proofs.TextRuns.{first_lines}

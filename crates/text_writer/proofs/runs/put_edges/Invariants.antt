@@ -1,5 +1,5 @@
 -- `text_writer::put_edges` meets its contract: before turn i the first i edge lines are put.
-use Prim.Native.Nat.{◌≤◌, ◌-◌}
+use Prim.Native.Nat.{◌≤◌}
 use Rattle.model.specs.Text.{edge_line}
 use Rattle.plan.specs.Memory.{edge_of, no_edge}
 use Rattle.text_lines.specs.Put.{Put}

@@ -1,5 +1,5 @@
 -- `text_writer::put_processes` meets its contract: before turn i the first i process lines are put.
-use Prim.Native.Nat.{◌≤◌, ◌-◌}
+use Prim.Native.Nat.{◌≤◌}
 use Rattle.model.specs.Text.{process_line}
 use Rattle.plan.specs.Memory.{process_of, no_process}
 use Rattle.text_lines.specs.Put.{Put}

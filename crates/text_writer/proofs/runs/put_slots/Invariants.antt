@@ -1,5 +1,5 @@
 -- `text_writer::put_slots` meets its contract: before turn i the first i slot lines are put.
-use Prim.Native.Nat.{◌≤◌, ◌-◌}
+use Prim.Native.Nat.{◌≤◌}
 use Rattle.model.specs.Text.{slot_line}
 use Rattle.plan.specs.Memory.{slot_of, no_slot}
 use Rattle.text_lines.specs.Put.{Put}
