@@ -30,7 +30,10 @@ pub const WAIT_AT: usize = NOTED_AT + NOTED;
 pub const WORDS: usize = WAIT_AT + EDGES;
 
 // What planning keeps of a combination by node.
+// (One array, not a struct of arrays by node: the contracts of the crates above speak of its fields by `nodes_of`.)
 pub type Nodes = [u32; WORDS];
+
+// (A reader and a store for each field, not one for all: each names its field in its contract.)
 
 // The clock at which the last process of node n ends, 0 if it has started none.
 pub fn busy_of(nodes: &Nodes, n: usize) -> u32
