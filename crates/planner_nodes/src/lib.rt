@@ -6,7 +6,7 @@
 ghost use Rattle.std.specs.Prelude.{◌≡◌, ◌<◌, get_or};
 ghost use Rattle.limits.specs.Limits.{EDGES, NODES, NOTED};
 ghost use Rattle.planner_nodes.specs.Nodes.{nodes_of, no_nodes, put_busy, put_passed, put_nextsend};
-ghost use Rattle.planner_nodes.specs.Nodes.{put_lastarrival, put_waitend, put_noted, put_wait};
+ghost use Rattle.planner_nodes.specs.Nodes.{put_lastarrival, put_waitend, put_wait};
 
 use arrays::wide;
 use limits::{EDGES, NODES, NOTED};
@@ -113,14 +113,6 @@ pub fn put_waitend(nodes: &mut Nodes, n: usize, x: u32)
     ensures { nodes_of nodes.new ≡ put_waitend n x (nodes_of nodes.old) }
 {
     nodes[WAITEND_AT + n] = x;
-}
-
-// Stores the count of passed at place i, condition times 8 plus node, as the value of the condition became known.
-pub fn put_noted(nodes: &mut Nodes, i: usize, x: u32)
-    requires { i < NOTED }
-    ensures { nodes_of nodes.new ≡ put_noted i x (nodes_of nodes.old) }
-{
-    nodes[NOTED_AT + i] = x;
 }
 
 // Stores the edge at place j of the messages that wait.
