@@ -18,7 +18,7 @@ use log_queries::update_may_run;
 use log_rows::{Rows, comes_of};
 use plan_index::{Index, conditionrow_of, conditions_of, slots_of};
 use planner_dispatch::starts;
-use planner_nodes::{Nodes, passed_of, put_noted};
+use planner_nodes::{NOTED_AT, Nodes, PASSED_AT};
 use planner_packing::{Ends, send_slot};
 use planner_sends::{
     changed_nodes, changes, current_round, ends_after, next_event, sending_node, sooner,
@@ -31,10 +31,7 @@ fn note_counts(k: usize, nodes: &mut Nodes)
     ensures { nodes_of nodes.new ≡ with_noted (sets (nodes_of nodes.old).noted (k * NODES)
         (nodes_of nodes.old).passed) (nodes_of nodes.old) }
 {
-    for n in 0..NODES {
-        let x = passed_of(nodes, n);
-        put_noted(nodes, k * NODES + n, x);
-    }
+    nodes.copy_within(PASSED_AT..PASSED_AT + NODES, NOTED_AT + k * NODES);
 }
 
 // Notes the counts for condition k, whose row is `row`, if its value becomes known at clock u.

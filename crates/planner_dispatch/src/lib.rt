@@ -60,7 +60,7 @@ fn start(index: &Index, a: usize, b: usize, u: u32, last: u32, rows: &mut Rows) 
 }
 
 // The end of a process that starts, where it is the first to end so far, or else the first so far. A process that ends
-// by the clock u has not started at it.
+// by the clock u has not started at it. (planner_sends::sooner promises the equation; this crate does not rest on it.)
 fn sooner_end(first: u32, end: u32, u: u32) -> u32
     ensures { (result ≤ first) × (u < end → result ≤ end) × ((result ≡ first) ⊎ ((u < end) × (result ≡ end))) }
 {
@@ -98,7 +98,7 @@ fn start_node(
 // Each free node starts its first ready process in dispatch order that has not started: `busy` has then the end of each
 // node's last process, and `comes` the end of each process. `new` is the mask of the nodes for which something is new
 // at this clock; the others have nothing to start and are passed by. The answer is the end of the process that ends
-// first of those that start, or `NEVER`.
+// first of those that start, or `NEVER` (no Option: it is compared with clocks, as the latest).
 pub fn starts(index: &Index, u: u32, new: u32, rows: &mut Rows, nodes: &mut Nodes) -> u32
     requires { Bounded (laid index.now) × (u ≤ LASTCLOCK) × (new < 256)
         × NothingNew (laid index.now) (rows_of rows.old) (nodes_of nodes.old).busy u new }

@@ -1,6 +1,7 @@
 // What a slot takes as it begins: the pending broadcasts of its node, lowest condition number first, then the messages
 // that wait in the order of the queue, side by side from byte 0. specs/Sending.antt says the same of the arrays.
-ghost use Rattle.std.specs.Prelude.{◌≡◌, ℕ, ◌+◌, ◌-◌, ◌<◌, ◌≤◌, leb, length, get_or, unwrap_or, IfSome, false, true, if◌then◌else◌};
+ghost use Rattle.std.specs.Prelude.{◌≡◌, ℕ, ◌+◌, ◌-◌, ◌<◌, ◌≤◌, leb, length, get_or, if◌then◌else◌};
+ghost use Rattle.std.specs.Prelude.{false, true, unwrap_or, IfSome};
 ghost use mathlib.Core.List.{Memᴰ as In};
 ghost use Rattle.limits.specs.Limits.{NODES, EDGES};
 ghost use Rattle.plan_index.specs.Index.{laid, Bounded};
@@ -20,6 +21,7 @@ use planner_nodes::{Nodes, put_lastarrival, put_wait, wait_of, waitend_of};
 use planner_sends::{Taken, pending_broadcasts, take_broadcasts};
 
 // Moves the messages that wait at the places from j to before z down to place k. The place behind them.
+// (Not `copy_within`: mostly none or few are moved, and the loop takes no call.)
 fn move_down(nodes: &mut Nodes, k: usize, j: usize, z: usize) -> usize
     requires { (k ≤ j) × (j ≤ z) × (z ≤ EDGES) × (length (nodes_of nodes.old).wait ≡ EDGES) }
     ensures listed { Listed (nodes_of nodes.old).wait (nodes_of nodes.new).wait k result

@@ -68,8 +68,8 @@ fn fill(index: &Index, n: usize, u: u32, ends: Ends, rows: &mut Rows, nodes: &mu
     }
 }
 
-// The slot of a node takes its items at clock u, if there is one that does; and what is kept by node goes on from there:
-// at which nodes an item arrives, and when the slot of the node next takes one, a round later if one is left.
+// The slot of a node takes its items at clock u, if one does; and what is kept by node goes on from there: at which
+// nodes an item arrives, and when the slot of the node next takes one, a round later if one is left.
 pub fn send_slot(
     index: &Index,
     node: Option<usize>,

@@ -25,7 +25,8 @@ pub struct Source {
     pub clock: u32,
 }
 
-// The clock at which a value arrives: x, or `NEVER` where x is 0.
+// The clock at which a value arrives: x, or `NEVER` where x is 0 (no Option: it is compared with clocks, as the
+// latest).
 fn arrives(x: u32) -> u32
     ensures { result ≡ arrival x }
 {

@@ -9,7 +9,7 @@ ghost use Rattle.planner_nodes.specs.Nodes.{WORDS, nodes_of};
 ghost use Rattle.planner_sends.specs.Clocks.{new_at, sending_node_by, sooner_by, come_by, ends_now};
 ghost use Rattle.planner_sends.specs.Clocks.{changes_at, event_now};
 
-use bitset::with_node;
+use bitset::with_bit;
 use limits::{NEVER, NODES};
 use planner_nodes::{BUSY_AT, LASTARRIVAL_AT, Nodes, busy_of, nextsend_of};
 
@@ -20,7 +20,7 @@ fn at_clock(nodes: &Nodes, at: usize, u: u32) -> u32
 {
     let mut mask: u32 = 0;
     for n in (0..NODES).rev() {
-        mask = with_node(mask, nodes[at + n] == u);
+        mask = with_bit(mask, nodes[at + n] == u);
     }
     mask
 }
@@ -36,14 +36,13 @@ pub fn changed_nodes(nodes: &Nodes, u: u32) -> u32
 }
 
 // Whether the slot of a node takes an item at clock u.
+// (Not `any`: with no early return the comparisons take no branch.)
 fn any_sends(nodes: &Nodes, u: u32) -> bool
     ensures { result ≡ any (λ n. eqb (get_or (nodes_of nodes.now).nextsend n 0) u) (below NODES) }
 {
     let mut found = false;
     for n in 0..NODES {
-        if nextsend_of(nodes, n) == u {
-            found = true;
-        }
+        found |= nextsend_of(nodes, n) == u;
     }
     found
 }
@@ -82,7 +81,7 @@ pub fn sooner(least: u32, x: u32, u: u32) -> u32
     if u < x { least.min(x) } else { least }
 }
 
-// The next clock after u at which a process ends, or `NEVER`.
+// The next clock after u at which a process ends, or `NEVER` (no Option: it is compared with clocks, as the latest).
 fn next_end(nodes: &Nodes, slots: usize, u: u32) -> u32
     requires { slots ≤ NODES }
     ensures { result ≡ come_by 0 (nodes_of nodes.now).busy u slots }
