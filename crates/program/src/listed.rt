@@ -12,7 +12,7 @@ ghost use Rattle.program.specs.Listing.{listed_in, ListsPlan};
 use arrays::zeros;
 use limits::{ENTRYFRAMEWORDS, NODES, PRINTEDFRAMEWORDS, PRINTEDWORDS};
 use listing::write_listing;
-use listing_count::exceeds;
+use listing_count::{Counts, exceeds};
 use plan::Plan;
 use planner_table::plan_accepted;
 use refusals::Refusal;
@@ -34,17 +34,13 @@ fn refused_frames<'a>(
         (words_listing (lines p) delay passed.now table.now frames.now)) }
 {
     let nodes = p.slots.min(NODES);
-    let counts = &passed[..nodes];
-    if exceeds(
-        lent,
-        p.processes,
-        p.edges,
-        p.conditions,
-        delay,
-        counts,
-        table,
-        frames,
-    ) {
+    let passed = &passed[..nodes];
+    let counts = Counts {
+        processes: p.processes,
+        edges: p.edges,
+        conditions: p.conditions,
+    };
+    if exceeds(lent, counts, delay, passed, table, frames) {
         return Refusal::LentRoom;
     }
     Refusal::FrameRoom

@@ -7,8 +7,8 @@ use Rattle.lists.proofs.Counts.{take_most}
 use Rattle.program.proofs.ListingOfPlan.{many_refused}
 use Rattle.program.proofs.listed.refused_frames.Goals as goal
 
-pub slice_bounds-counts-end : goal.slice_bounds-counts-end
-slice_bounds-counts-end c =
+pub slice_bounds-passed-end : goal.slice_bounds-passed-end
+slice_bounds-passed-end c =
     let nodes = c.min-nodes in
     omega (arith, length-take nodes.result c.args.passed.now, nodes.ensures, c.requires.fact_2)
 
