@@ -1,5 +1,5 @@
 -- `checker_listing::same_counts` meets its contract: before turn i what is left of the counts gives the whole answer.
-use Prim.Native.Nat.{◌-◌, ◌≤◌}
+use Prim.Native.Nat.{◌≤◌}
 use Rattle.checker_listing.proofs.SameCounts.{Left}
 use Rattle.checker_listing.proofs.counts.same_counts.Given as goal
 
