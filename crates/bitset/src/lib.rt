@@ -48,15 +48,8 @@ pub fn with_bit(mask: u32, set: bool) -> u32
     mask * 2 + u32::from(set)
 }
 
-// with_bit at a mask of nodes.
-pub fn with_node(mask: u32, set: bool) -> u32
-    requires { mask < 128 }
-    ensures { (result ≡ under set mask) × (result < 256) }
-{
-    with_bit(mask, set)
-}
-
-// The lowest node of a mask of nodes (not one function with `lowest`: a caller would show the mask's width each time).
+// The lowest node of a mask of nodes. It and without_lowest_node are no one function with lowest and without_lowest: the
+// members of both masks have lemmas of their own, and each caller would show its mask's width.
 pub fn lowest_node(those: u32) -> u32
     requires { (0 < those) × (those < 256) }
     ensures { nodes those ≡ result ∷ drop 1 (nodes those) }

@@ -6,7 +6,7 @@
 ghost use Rattle.std.specs.Prelude.{◌≡◌, ◌<◌, get_or};
 ghost use Rattle.limits.specs.Limits.{EDGES, NODES, NOTED};
 ghost use Rattle.planner_nodes.specs.Nodes.{nodes_of, no_nodes, put_busy, put_passed, put_nextsend};
-ghost use Rattle.planner_nodes.specs.Nodes.{put_lastarrival, put_waitend, put_wait};
+ghost use Rattle.planner_nodes.specs.Nodes.{put_lastarrival, put_waitend, put_noted, put_wait};
 
 use arrays::wide;
 use limits::{EDGES, NODES, NOTED};
@@ -29,11 +29,10 @@ pub const WAIT_AT: usize = NOTED_AT + NOTED;
 // How many numbers there are.
 pub const WORDS: usize = WAIT_AT + EDGES;
 
-// What planning keeps of a combination by node.
-// (One array, not a struct of arrays by node: the contracts of the crates above speak of its fields by `nodes_of`.)
+// What planning keeps of a combination by node. It is one array and no struct of arrays: fixed memory is lent as one
+// array with named offsets, and the contracts above speak of its fields by `nodes_of`. Each field has a reader and a
+// store, which name it in their contracts.
 pub type Nodes = [u32; WORDS];
-
-// (A reader and a store for each field, not one for all: each names its field in its contract.)
 
 // The clock at which the last process of node n ends, 0 if it has started none.
 pub fn busy_of(nodes: &Nodes, n: usize) -> u32
@@ -113,6 +112,14 @@ pub fn put_waitend(nodes: &mut Nodes, n: usize, x: u32)
     ensures { nodes_of nodes.new ≡ put_waitend n x (nodes_of nodes.old) }
 {
     nodes[WAITEND_AT + n] = x;
+}
+
+// Stores the count of passed at place i, condition times 8 plus node, as the value of the condition became known.
+pub fn put_noted(nodes: &mut Nodes, i: usize, x: u32)
+    requires { i < NOTED }
+    ensures { nodes_of nodes.new ≡ put_noted i x (nodes_of nodes.old) }
+{
+    nodes[NOTED_AT + i] = x;
 }
 
 // Stores the edge at place j of the messages that wait.
