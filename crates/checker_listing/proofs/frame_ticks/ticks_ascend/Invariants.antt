@@ -1,5 +1,5 @@
 -- `checker_listing::ticks_ascend` meets its contract: before turn k the first k frames are in order.
-use Prim.Native.Nat.{◌≤◌, ◌-◌}
+use Prim.Native.Nat.{◌≤◌}
 use Rattle.checker_listing.proofs.TickTurns.{FirstAscend}
 use Rattle.checker_listing.proofs.frame_ticks.ticks_ascend.Given as goal
 
