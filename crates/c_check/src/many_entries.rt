@@ -39,12 +39,10 @@ fn some_ill_formed(bytes: &[u8], n: usize, index: &Index, combinations: u32) -> 
     ensures { result ≡ any (is_ill_formed (laid index.now) combinations)
         (entries_of (words_of bytes.now)) }
 {
-    let mut at: usize = 0;
-    while at < n {
-        if ill_formed_at(bytes, at, index, combinations) {
+    for i in 0..n / 5 {
+        if ill_formed_at(bytes, i * 5, index, combinations) {
             return true;
         }
-        at += 5;
     }
     false
 }

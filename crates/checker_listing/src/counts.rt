@@ -10,10 +10,5 @@ pub(crate) fn same_counts(a: &[u32; NODES], b: &[u32; NODES], n: usize) -> bool
     requires { (n ≤ NODES) × (length a.now ≡ NODES) × (length b.now ≡ NODES) }
     ensures { result ≡ same_numbers (take n a.now) (take n b.now) }
 {
-    for i in 0..n {
-        if a[i] != b[i] {
-            return false;
-        }
-    }
-    true
+    a[..n] == b[..n]
 }

@@ -24,6 +24,7 @@ pub(crate) fn find_frame(frames: &[u32], tick: u32) -> usize
     requires fact_2 { Ascends frames.now }
     ensures { Before frames.now tick result }
 {
+    // Halved by hand: std's `partition_point` searches the elements of a slice, and a frame is three words of one.
     let mut low: usize = 0;
     let mut high = frames.len() / 3;
     while low < high {

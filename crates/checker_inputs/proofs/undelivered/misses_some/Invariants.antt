@@ -1,6 +1,5 @@
 -- `checker_inputs::misses_some` meets its contract: the edges from place j on give the whole answer.
 use mathlib.Core.Path.{◌≡◌}
-use Prim.Native.Nat.{◌-◌}
 use Rattle.lists.specs.Lists.{any}
 use Rattle.plan_index.specs.Index.{laid}
 use Rattle.log_rows.specs.Rows.{rows_of}

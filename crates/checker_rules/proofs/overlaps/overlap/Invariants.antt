@@ -1,6 +1,5 @@
 -- `checker_rules::overlap` meets its contract: the processes from i on give the whole answer.
 use mathlib.Core.Path.{◌≡◌}
-use Prim.Native.Nat.{◌-◌}
 use Rattle.plan_index.specs.Index.{laid}
 use Rattle.log_rows.specs.Rows.{rows_of}
 use Rattle.checker_rows.specs.MetArrays.{some}
