@@ -1,7 +1,6 @@
 // What a slot takes as it begins: the pending broadcasts of its node, lowest condition number first, then the messages
 // that wait in the order of the queue, side by side from byte 0. specs/Sending.antt says the same of the arrays.
 ghost use Rattle.std.specs.Prelude.{◌≡◌, ℕ, ◌+◌, ◌-◌, ◌<◌, ◌≤◌, leb, length, get_or, if◌then◌else◌};
-ghost use Rattle.std.specs.Prelude.{false, true, unwrap_or, IfSome};
 ghost use mathlib.Core.List.{Memᴰ as In};
 ghost use Rattle.limits.specs.Limits.{NODES, EDGES};
 ghost use Rattle.plan_index.specs.Index.{laid, Bounded};
@@ -45,17 +44,6 @@ fn fits(index: &Index, e: u32, left: u32) -> bool
     ensures { result ≡ leb (get_or (laid index.now).bytes e 0) left }
 {
     bytes_of(index, wide(e)) <= left
-}
-
-// The first of the messages that wait at the places from j to before z that fits so many bytes.
-fn next_fitting(index: &Index, nodes: &Nodes, j: usize, z: usize, left: u32) -> Option<usize>
-    requires { (z ≤ EDGES) × Bounded (laid index.now) × ((i : ℕ) → get_or (nodes_of nodes.now).wait i 0 < EDGES) }
-    ensures passed { (i : ℕ) → j ≤ i → i < unwrap_or result z →
-        leb (get_or (laid index.now).bytes (get_or (nodes_of nodes.now).wait i 0) 0) left ≡ false }
-    ensures fitting { IfSome result (λ i. (j ≤ i) × (i < z)
-        × (leb (get_or (laid index.now).bytes (get_or (nodes_of nodes.now).wait i 0) 0) left ≡ true)) }
-{
-    (j..z).find(|&i| fits(index, wait_of(nodes, i), left))
 }
 
 // The message of edge e goes with the slot that ends at `end`, from byte `used` on, and arrives at its receiver.
@@ -104,25 +92,31 @@ fn take_messages(
     let mut used = first.used;
     let mut short = first.short;
     let mut k = a;
+    let mut next = a;
     let mut j = a;
+    // Nested loops, and a label that is left: document 01 asks for this form by name.
     'slot: while j < z {
         let left = room - used;
         if left == 0 {
             short = true;
             break 'slot;
         }
-        let Some(next) = next_fitting(index, nodes, j, z, left) else {
+        // on to the next that fits
+        while !fits(index, wait_of(nodes, j), left) {
             short = true;
-            break 'slot;
-        };
-        short |= j < next;
-        k = move_down(nodes, k, j, next);
-        let e = wide(wait_of(nodes, next));
+            j += 1;
+            if j == z {
+                break 'slot;
+            }
+        }
+        k = move_down(nodes, k, next, j);
+        let e = wide(wait_of(nodes, j));
         lay(index, e, used, end, rows, nodes);
         used += bytes_of(index, e);
-        j = next + 1;
+        j += 1;
+        next = j;
     }
-    let behind = move_down(nodes, k, j, z);
+    let behind = move_down(nodes, k, next, z);
     Packed {
         used,
         short,

@@ -66,6 +66,10 @@ listed_join before middle after a k r xs ys g h =
       long = h.long ∙ g.long;
     }
 
+-- the same from an equal place on
+pub listed_from : {before after : List ℕ} {k r i j : ℕ} (z : ℕ) → i ≡ j → Listed before after k r (part before i z) → Listed before after k r (part before j z)
+listed_from {before} {after} {k} {r} {i} {j} z q h = subst (λ (n : ℕ). Listed before after k r (part before n z)) q h
+
 -- what bounds the numbers and the array bounds what stands there
 pub listed_small : (before after : List ℕ) (a r : ℕ) (numbers : List ℕ) → Listed before after a r numbers → (bound : ℕ) → ((i : ℕ) → get_or before i 0 < bound) → ((x : ℕ) → In x numbers → x < bound) →
     (i : ℕ) → get_or after i 0 < bound
