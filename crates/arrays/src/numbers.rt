@@ -1,7 +1,7 @@
 // A number as an index.
 ghost use Rattle.std.specs.Prelude.{◌≡◌};
 
-// A number as an index of an array: usize has no From<u32>, so this one cast stands here.
+// A number as an index of an array. usize has no From<u32>: the cast has a name, and says that nothing is lost.
 pub fn wide(x: u32) -> usize
     ensures { result ≡ x }
 {

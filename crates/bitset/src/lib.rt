@@ -48,8 +48,8 @@ pub fn with_bit(mask: u32, set: bool) -> u32
     mask * 2 + u32::from(set)
 }
 
-// The lowest node of a mask of nodes. It and without_lowest_node are no one function with lowest and without_lowest: the
-// members of both masks have lemmas of their own, and each caller would show its mask's width.
+// The lowest node of a mask of nodes. One function for this and `lowest` would be no plainer: its contract would name
+// the mask's width, and each caller would show it; the same of `without_lowest_node`.
 pub fn lowest_node(those: u32) -> u32
     requires { (0 < those) × (those < 256) }
     ensures { nodes those ≡ result ∷ drop 1 (nodes those) }

@@ -10,7 +10,7 @@ ghost use Rattle.bus_timetable.specs.Bus.{SCALE, beginning_at, round_beginning_a
 // 2 to the 31: all ticks are below it.
 const SCALE: u64 = 2147483648;
 
-// How many rounds lie in so many ticks, or one less. What divides is 2 to the 31, a number that stands there.
+// How many rounds lie in so many ticks, or one less. What divides is 2 to the 31, a fixed number.
 fn rounds_in(ticks: u32, reciprocal: u32) -> u32
     requires { (ticks < SCALE) × (reciprocal < SCALE) }
     ensures { result ≡ ticks * reciprocal / SCALE }

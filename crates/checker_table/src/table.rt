@@ -29,12 +29,10 @@ fn some_ill_formed(table: &[u32], index: &Index, combinations: u32) -> bool
     ensures { result ≡ any (is_ill_formed (laid index.now) combinations)
         (entries_of table.now) }
 {
-    let mut at: usize = 0;
-    while at < table.len() {
-        if ill_formed(table, at, index, combinations) {
+    for i in 0..table.len() / 5 {
+        if ill_formed(table, i * 5, index, combinations) {
             return true;
         }
-        at += 5;
     }
     false
 }

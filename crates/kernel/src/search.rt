@@ -40,8 +40,8 @@ pub fn entry_fits<'a>(
     column_met(table[at + 1], table[at + 2], heard, told)
 }
 
-// The number of the first entry from number `first` on that is of a node at a tick and whose column is met by what is heard. `b`
-// tells the node of each row.
+// The number of the first entry from number `first` on that is of a node at a tick and whose column is met by what is
+// heard. `b` tells the node of each row.
 pub(crate) fn first_fitting(
     table: &[u32],
     first: usize,

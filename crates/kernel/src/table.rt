@@ -13,8 +13,9 @@ use plan::Plan;
 use plan_refusals::refuse;
 use refusals::Refusal;
 
-// The number of the first entry from number `first` on that is of a node at a tick and whose column is met by what is heard, for a
-// plan in which refusals 2 to 9 find nothing: the plan tells the node of a row. A node that it lacks has no entries.
+// The number of the first entry from number `first` on that is of a node at a tick and whose column is met by what is
+// heard, for a plan in which refusals 2 to 9 find nothing: the plan tells the node of a row. A node that it lacks has
+// no entries.
 fn found_in(
     p: Plan,
     table: &[u32],

@@ -3,8 +3,8 @@ ghost use Rattle.std.specs.Prelude.{◌+◌, ◌≤◌, length};
 ghost use Rattle.text_lines.specs.Put.{Put};
 ghost use Rattle.listing_bytes.specs.Fits.{Fits};
 
-// Stores a word. It is mostly a few known bytes, for which copy_from_slice takes more instructions: a tenth more to store
-// a table.
+// Stores a word. It is mostly a few known bytes, for which copy_from_slice was tried and takes more instructions: a
+// tenth more to store a table.
 pub fn put_word(out: &mut [u8], at: usize, word: &[u8]) -> usize
     requires { Fits out.old at word.now }
     ensures { Put out.old out.new at result word.now }

@@ -57,8 +57,8 @@ fn put_six(out: &mut [u8], at: usize, known: u32, values: u32) -> usize
     put_value(out, five, known / 32, values / 32, 5)
 }
 
-// How many sets of known conditions a plan has, where it has at most six conditions; otherwise none. By a table: the
-// compiler moves a shift into the loop over the lines.
+// How many sets of known conditions a plan has, where it has at most six conditions; otherwise none. By a
+// match: a shift was tried, and the compiler moves it into the loop over the lines.
 #[tactic(auto, unfolding(crate::specs::Sets::sets_of))]
 pub(crate) fn known_sets(conditions: usize) -> u32
     ensures { result ≡ sets_of conditions }

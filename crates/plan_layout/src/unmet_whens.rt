@@ -30,8 +30,8 @@ fn values(combination: u32) -> [u32; CONDITIONS]
     value
 }
 
-// Whether a `when` of this kind is unmet where its condition has this value: 1, or 0. (Kind and value are numbers here,
-// since they stand so in the plan index and in the rows.)
+// Whether a `when` of this kind is unmet where its condition has this value: 1, or 0. Kinds are numbers, since the one
+// array of the plan index holds them so.
 fn is_unmet(kind: u32, value: u32) -> u32
     ensures { result ≡ unmet_of kind value }
 {

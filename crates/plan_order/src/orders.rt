@@ -95,7 +95,7 @@ pub fn fixed_orders(p: Plan) -> Orders
     let a = in_groups(&none, p.edges, &e.to, p.processes);
     let b = in_groups(&weight, p.processes, &q.node, p.slots);
     let c = in_groups(&receiver, p.edges, &sender, p.slots);
-    // an array of a literal needs a variable of its own
+    // A variable for each array: the borrow checker takes no array out of a struct within a literal.
     let intofirst = a.first;
     let into = a.member;
     let dispatchfirst = b.first;

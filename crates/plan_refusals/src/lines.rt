@@ -2,7 +2,8 @@
 ghost use Rattle.std.specs.Prelude.{◌≡◌};
 ghost use Rattle.lists.specs.Lists.{any};
 ghost use Rattle.model.specs.Plan.{edges};
-ghost use Rattle.model.specs.Refusals.{wrong_sizes, wrong_nodes, wrong_deciders, wrong_ends, twin_edges, wrong_when, too_long};
+ghost use Rattle.model.specs.Refusals.{wrong_sizes, wrong_nodes, wrong_deciders, wrong_ends};
+ghost use Rattle.model.specs.Refusals.{twin_edges, wrong_when, too_long};
 ghost use Rattle.plan.specs.Bounds.{Few, Ended};
 ghost use Rattle.plan.specs.Memory.{lines};
 

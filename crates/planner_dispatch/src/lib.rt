@@ -60,7 +60,8 @@ fn start(index: &Index, a: usize, b: usize, u: u32, last: u32, rows: &mut Rows) 
 }
 
 // The end of a process that starts, where it is the first to end so far, or else the first so far. A process that ends
-// by the clock u has not started at it. (planner_sends::sooner promises the equation; this crate does not rest on it.)
+// by the clock u has not started at it. `planner_sends::sooner` promises an equation; one function of both would be no
+// plainer, since its contract would hold that beside these bounds.
 fn sooner_end(first: u32, end: u32, u: u32) -> u32
     ensures { (result ≤ first) × (u < end → result ≤ end) × ((result ≡ first) ⊎ ((u < end) × (result ≡ end))) }
 {

@@ -36,7 +36,7 @@ pub fn changed_nodes(nodes: &Nodes, u: u32) -> u32
 }
 
 // Whether the slot of a node takes an item at clock u.
-// (Not `any`: with no early return the comparisons take no branch.)
+// `any` would return early, which the comparisons without a branch of point 4 do not.
 fn any_sends(nodes: &Nodes, u: u32) -> bool
     ensures { result ≡ any (λ n. eqb (get_or (nodes_of nodes.now).nextsend n 0) u) (below NODES) }
 {
