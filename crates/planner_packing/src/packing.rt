@@ -19,8 +19,8 @@ use plan_index::{
 use planner_nodes::{Nodes, put_lastarrival, put_wait, wait_of, waitend_of};
 use planner_sends::{Taken, pending_broadcasts, take_broadcasts};
 
-// Moves the messages that wait at the places from j to before z down to place k. The place behind them. `copy_within` is
-// no plainer: a place of `Nodes` would be named by its offset, and not by its reader and store.
+// Moves the messages that wait at the places from j to before z down to place k. The place behind them. `copy_within`
+// is no plainer: a place of `Nodes` would be named by its offset, and not by its reader and store.
 fn move_down(nodes: &mut Nodes, k: usize, j: usize, z: usize) -> usize
     requires { (k ≤ j) × (j ≤ z) × (z ≤ EDGES) × (length (nodes_of nodes.old).wait ≡ EDGES) }
     ensures listed { Listed (nodes_of nodes.old).wait (nodes_of nodes.new).wait k result
