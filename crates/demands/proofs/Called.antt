@@ -12,6 +12,7 @@ use Rattle.model.specs.Lookup.{lookup, row_start, row_length}
 use Rattle.model.specs.Firmware.{words_of, AnswersLookup}
 use Rattle.refusals.specs.Numbers.{numbered}
 use Rattle.plan.specs.declared.Plan.{Plan}
+use Rattle.planner_table.specs.declared.Made.{Made}
 use Rattle.plan.specs.Memory.{lines, empty_plan}
 use Rattle.plan_refusals.specs.Answer.{refusal_of}
 use Rattle.text_reader.specs.Answer.{reading_of}

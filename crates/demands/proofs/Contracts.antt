@@ -15,6 +15,7 @@ use Rattle.model.specs.Lookup.{lookup, row_start, row_length, row_part}
 use Rattle.model.specs.Firmware.{words_of, AnswersLookup}
 use Rattle.refusals.specs.Numbers.{numbered}
 use Rattle.plan.specs.declared.Plan.{Plan}
+use Rattle.planner_table.specs.declared.Made.{Made}
 use Rattle.plan.specs.Memory.{lines, empty_plan}
 use Rattle.plan_refusals.specs.Answer.{refusal_of}
 use Rattle.text_reader.specs.Answer.{reading_of}
@@ -34,6 +35,7 @@ use Rattle.c_text.specs.Listing.{Lists}
 use Rattle.c_interface.specs.Tables.{Tables}
 use Rattle.c_interface.specs.Listings.{ChecksListingText}
 use Rattle.demands.specs.Calls.{CodeKeeps, AsksNothing}
+use Rattle.demands.specs.Calls.{Outcome}
 use Rattle.demands.specs.Calls as calls
 use Rattle.plan.proofs.empty.Met as empty-met
 use Rattle.plan_refusals.proofs.refuse.Met as refuse-met

@@ -22,7 +22,7 @@ use Rattle.model.specs.Lookup as model
 use Rattle.refusals.specs.Numbers.{numbered}
 use Rattle.refusals.proofs.Numbered.{is_ok}
 use Rattle.plan.specs.declared.Plan.{Plan}
-use Rattle.plan.specs.Memory.{lines, empty_plan}
+use Rattle.plan.specs.Memory.{lines}
 use Rattle.text_reader.specs.Answer.{reading_of}
 use Rattle.text_lines.specs.Answer as writer
 use Rattle.planner_table.specs.declared.Made.{Made}

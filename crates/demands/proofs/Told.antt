@@ -15,7 +15,7 @@ use Rattle.refusals.proofs.Numbered.{is_ok}
 use Rattle.model.specs.Plan.{Lines}
 use Rattle.model.specs.Refusals.{nothing, refused, sentence, plan_refusal}
 use Rattle.model.specs.Refusals as m
-use Rattle.model.specs.Text.{Means, reads, not_read, after_refusal, unless_refused, bytes_after}
+use Rattle.model.specs.Text.{Means, reads, not_read, unless_refused, bytes_after}
 use Rattle.model.specs.Table.{Result, result, answered, table_after, frames_after, counts_after, entry_words, frame_words}
 use Rattle.model.specs.Listing.{plan_listing, listing_refusal}
 use Rattle.program.proofs.Room.{listing_most}
@@ -25,7 +25,6 @@ use Rattle.text_reader.specs.Answer.{reading_of}
 use Rattle.text_lines.specs.Answer as writer
 use Rattle.planner_table.specs.declared.Made.{Made}
 use Rattle.planner_table.specs.Planner as planner
-use Rattle.listing.specs.Answer as listing
 use Rattle.checker_table.specs.Verdict as checker
 use Rattle.c_words.specs.Numbers.{written_number}
 use Rattle.c_interface.specs.Tables.{table_number, Puts}
@@ -36,12 +35,10 @@ use Rattle.demands.proofs.Firsts.{Told, number_refused, number_result}
 
 -- the reader's answer
 pub plan_read : (r : Outcome Plan) (p : Lines) → reads p ≡ reading_of r → (q : Plan) × (r ≡ Ok q) × (lines q ≡ p)
-unfolding reading_of
 plan_read (Ok q) p e = (q, refl, cc)
 plan_read (Err k) p e = absurd (let z : ◌≡◌ {A = ℕ} 0 1 = cc in omega arith)
 
 number_read : (r : Outcome Plan) (n : ℕ) → not_read n ≡ reading_of r → numbered r ≡ Err n
-unfolding reading_of
 number_read (Ok q) n e = absurd (let z : ◌≡◌ {A = ℕ} 0 1 = cc in omega arith)
 number_read (Err k) n e = let m : n ≡ number_of k = cc in ap Err (sym m)
 

@@ -22,7 +22,6 @@ use Rattle.refusals.specs.Numbers.{numbered}
 use Rattle.refusals.proofs.Numbered.{is_ok}
 use Rattle.plan.specs.declared.Plan.{Plan}
 use Rattle.plan.specs.Memory.{lines}
-use Rattle.plan_refusals.specs.Answer.{refusal_of}
 use Rattle.text_reader.specs.Answer.{reading_of}
 use Rattle.text_lines.specs.Answer as writer
 use Rattle.plan_refusals.proofs.Accepted.{of_read}
@@ -30,7 +29,6 @@ use Rattle.text_writer.proofs.ReadBack.{written_is_read, read_is_written}
 use Rattle.planner_table.specs.declared.Made.{Made}
 use Rattle.planner_table.specs.Planner as planner
 use Rattle.planner_table.proofs.PlannedSound.{made_fine}
-use Rattle.listing.specs.Answer as listing
 use Rattle.planner_table.proofs.Given.{WasMade, was_made}
 use Rattle.planner_table.proofs.Most.{delay_bounded}
 use Rattle.c_words.specs.Numbers.{written_number}
@@ -48,7 +46,6 @@ use Rattle.demands.proofs.Contracts.{read_plan_says, write_plan_says, plan_table
 
 -- what was read is lines that the text means
 meant : (text : List ℕ) (p : Plan) → AnswersText text (reading_of (Ok p)) → Means text (lines p)
-unfolding reading_of
 meant text p told = (of_read text (reads (lines p)) (lines p) told refl).1
 
 -- a reading of lines is theirs
@@ -72,7 +69,7 @@ written_back (not_written k) out out-now n e b = absurd (let z : ◌≡◌ {A = 
 read_written : (text : List ℕ) (p : Plan) → AnswersText text (reading_of (Ok p)) → (out out-now : List ℕ) (w : Outcome ℕ) →
     length text ≤ length out → numbered w ≡ writer.answer_of (write_plan (lines p) (length out)) → out-now ≡ bytes_after (write_plan (lines p) (length out)) out →
     (w ≡ Ok (length text)) × (out-now ≡ front text out)
-unfolding reading_of bytes_after
+unfolding bytes_after
 read_written text p a out out-now w l q b =
     let x = read_is_written text (lines p) (length out) a l in
     (is_ok w (length text) (q ∙ ap writer.answer_of x), b ∙ ap (λ (z : _). bytes_after z out) x)

@@ -1,7 +1,7 @@
 -- Document 02, point 3: "Pass-overs for each unit." Over calls of the functions (specs/Calls.antt); that each keeps to
 -- the first refusal that applies is part of demand 1.
 -- Assumes nothing.
-use Rattle.std.specs.Prelude.{Err, ℕ, ◌+◌, ◌*◌, ◌≤◌, ◌<◌, ◌≡◌, Bool, true, false, eqb, length, get_or}
+use Rattle.std.specs.Prelude.{Ok, Err, ℕ, ◌+◌, ◌*◌, ◌≤◌, ◌<◌, ◌≡◌, Bool, true, false, eqb, length, get_or}
 use mathlib.Core.List.{List, ◌∷◌, ◌++◌, map, Memᴰ as In}
 use Rattle.lists.specs.Lists.{keep, all, sum}
 use Rattle.model.specs.Plan.{Lines, Slot}
