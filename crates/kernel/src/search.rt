@@ -1,5 +1,5 @@
 // The search for an entry of a table that a unit takes up next, by the node of each row.
-ghost use Rattle.std.specs.Prelude.{◌≡◌, ◌/◌, ◌≤◌, ◌<◌, length, drop};
+ghost use Rattle.std.specs.Prelude.{Ok, ◌≡◌, ◌/◌, ◌≤◌, ◌<◌, length, drop};
 ghost use Rattle.limits.specs.Limits.{ROWS};
 ghost use Rattle.model.specs.Table.{entries_of};
 ghost use Rattle.kernel_rows.specs.Entries.{entry_at};
@@ -9,14 +9,6 @@ use crate::column::column_met;
 use crate::nodes::RowNodes;
 use arrays::wide;
 use limits::ROWS;
-
-// What the lookup answers: the number of an entry, that there is none, or the refusal of the plan, 2 to 9.
-#[derive(Clone, Copy)]
-pub enum Found {
-    Entry(usize),
-    None,
-    Refused(u32),
-}
 
 // Whether entry i of a table is of a node at a tick, and its column is met by what is heard. `nodes` has the node of
 // each row of the plan.
@@ -48,8 +40,8 @@ pub fn entry_fits<'a>(
     column_met(table[at + 1], table[at + 2], heard, told)
 }
 
-// The first entry from number `first` on that is of a node at a tick and whose column is met by what is heard. `b`
-// tells the node of each row.
+// The number of the first entry from number `first` on that is of a node at a tick and whose column is met by what is
+// heard. `b` tells the node of each row.
 pub(crate) fn first_fitting(
     table: &[u32],
     first: usize,
@@ -58,18 +50,16 @@ pub(crate) fn first_fitting(
     tick: u32,
     heard: u32,
     told: u32,
-) -> Found
+) -> Option<usize>
     requires { b.rows ≤ ROWS }
-    ensures { result ≡ found_of (find_by (fits_by b.node b.rows node tick heard told)
+    ensures { Ok result ≡ found_of (find_by (fits_by b.node b.rows node tick heard told)
         (drop first (entries_of table.now)) first) }
 {
     let n = table.len() / 5;
-    let mut i = first;
-    while i < n {
+    for i in first..n {
         if entry_fits(table, i, &b.node, b.rows, node, tick, heard, told) {
-            return Found::Entry(i);
+            return Some(i);
         }
-        i += 1;
     }
-    Found::None
+    None
 }

@@ -1,4 +1,5 @@
 pub mod Memory
+pub mod Bounds
 pub mod Tables
 pub mod Tests
 pub mod Kinds

@@ -7,10 +7,9 @@ use Rattle.plan.specs.declared.Waits.TheVariants.{All, Any}
 use Rattle.plan.specs.declared.When.{When}
 use Rattle.plan.specs.declared.When.TheVariants.{Always, True, False}
 use Rattle.plan.specs.declared.Plan.{Plan}
-use Rattle.plan.specs.declared.tables.SlotTable.{SlotTable}
 use Rattle.plan.specs.declared.tables.ProcessTable.{ProcessTable}
 use Rattle.plan.specs.declared.tables.EdgeTable.{EdgeTable}
-use Rattle.plan.specs.Memory.{no_slot, no_process, no_edge}
+use Rattle.plan.specs.Memory.{no_process, no_edge}
 
 abbrev pub any_number : Waits → ℕ
 any_number All = 0
@@ -25,11 +24,6 @@ abbrev pub condition_number : When → ℕ
 condition_number Always = 0
 condition_number (True k) = k
 condition_number (False k) = k
-
-unfoldable pub slots_table : Plan → SlotTable
-slots_table p =
-    let n : ℕ = min p.slots 8 in
-    record { node = fill 8 (λ i. (get_or p.slot i no_slot).node) n; bytes = fill 8 (λ i. (get_or p.slot i no_slot).bytes) n }
 
 unfoldable pub processes_table : Plan → ProcessTable
 processes_table p =

@@ -1,18 +1,11 @@
-// A plan as arrays of numbers, one for each field of its lines, to be lent to loops. Past the plan's lines they hold 0.
+// A plan's processes and edges as arrays of numbers, one for each field of the lines, to be lent to loops. Past the
+// plan's lines they hold 0.
 ghost use Rattle.std.specs.Prelude.{◌≡◌};
-ghost use Rattle.plan.specs.Tables.{slots_table, processes_table, edges_table, kind_number, condition_number};
+ghost use Rattle.plan.specs.Tables.{processes_table, edges_table, kind_number, condition_number};
 ghost use Rattle.plan.specs.Tables.{any_number};
 
 use crate::{Edge, Plan, Process, Waits, When};
-use arrays::lesser_usize;
-use limits::{EDGES, PROCESSES, SLOTS};
-
-// by slot, in bus order
-#[derive(Clone, Copy)]
-pub struct SlotTable {
-    pub node: [u32; SLOTS],
-    pub bytes: [u32; SLOTS],
-}
+use limits::{EDGES, PROCESSES};
 
 // by process; `any` is 1 where the process waits for any
 #[derive(Clone, Copy)]
@@ -57,57 +50,39 @@ fn condition_number(w: When) -> u32
 {
     match w {
         When::Always => 0,
-        When::True(k) => k,
-        When::False(k) => k,
+        When::True(k) | When::False(k) => k,
     }
 }
 
-pub fn slot_table(p: Plan) -> SlotTable
-    ensures { result ≡ slots_table p }
-{
-    let n = lesser_usize(p.slots, SLOTS);
-    let mut node = [0u32; SLOTS];
-    let mut bytes = [0u32; SLOTS];
-    let mut i: usize = 0;
-    while i < n {
-        let s = p.slot[i];
-        node[i] = s.node;
-        bytes[i] = s.bytes;
-        i += 1;
-    }
-    SlotTable { node, bytes }
-}
-
+// The processes of a plan.
 pub fn process_table(p: Plan) -> ProcessTable
     ensures { result ≡ processes_table p }
 {
-    let n = lesser_usize(p.processes, PROCESSES);
+    let n = p.processes.min(PROCESSES);
     let mut node = [0u32; PROCESSES];
     let mut ticks = [0u32; PROCESSES];
     let mut any = [0u32; PROCESSES];
-    let mut i: usize = 0;
-    while i < n {
+    for i in 0..n {
         let q = p.process[i];
         let w = q.waits;
         node[i] = q.node;
         ticks[i] = q.ticks;
         any[i] = any_number(w);
-        i += 1;
     }
     ProcessTable { node, ticks, any }
 }
 
+// The edges of a plan.
 pub fn edge_table(p: Plan) -> EdgeTable
     ensures { result ≡ edges_table p }
 {
-    let n = lesser_usize(p.edges, EDGES);
+    let n = p.edges.min(EDGES);
     let mut from = [0u32; EDGES];
     let mut to = [0u32; EDGES];
     let mut bytes = [0u32; EDGES];
     let mut kind = [0u32; EDGES];
     let mut condition = [0u32; EDGES];
-    let mut i: usize = 0;
-    while i < n {
+    for i in 0..n {
         let e = p.edge[i];
         let w = e.when;
         from[i] = e.from;
@@ -115,7 +90,6 @@ pub fn edge_table(p: Plan) -> EdgeTable
         bytes[i] = e.bytes;
         kind[i] = kind_number(w);
         condition[i] = condition_number(w);
-        i += 1;
     }
     EdgeTable {
         from,

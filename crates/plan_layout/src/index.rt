@@ -12,6 +12,7 @@ use crate::index_words::lay_out;
 use crate::line_arrays::{counted_as_any, known_rows, remotes};
 use crate::node_arrays::decided_by_node;
 use crate::row_arrays::{row_senders, row_sizes, row_spans};
+use arrays::copy_part;
 use bus_timetable::Timetable;
 use limits::CONDITIONS;
 use plan::{EdgeTable, Plan, ProcessTable, edge_table, process_table};
@@ -24,11 +25,7 @@ fn deciders(p: Plan) -> [u32; CONDITIONS]
     ensures { result ≡ fill CONDITIONS (at p.condition) p.conditions }
 {
     let mut decider = [0u32; CONDITIONS];
-    let mut k: usize = 0;
-    while k < p.conditions {
-        decider[k] = p.condition[k];
-        k += 1;
-    }
+    copy_part(&p.condition, 0, p.conditions, &mut decider);
     decider
 }
 

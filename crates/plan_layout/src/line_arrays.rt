@@ -1,12 +1,12 @@
 // Arrays of a plan's lines: by process, whether it counts as `any`; by edge, the row that makes its `when` known and
-// the node that receives.
+// the node that receives. (Arrays with a count, not slices: the contracts speak of the zeros behind the count, too.)
 ghost use Rattle.std.specs.Prelude.{◌≡◌, ℕ, ◌<◌, ◌≤◌};
 ghost use Rattle.limits.specs.Limits.{NODES, PROCESSES, CONDITIONS, EDGES, CONDITIONROW};
 ghost use Rattle.plan.specs.Tests.{at};
 ghost use Rattle.plan_layout.specs.LineArrays.{knownby_of, as_any_of, receiver_of, as_any_by_process};
 ghost use Rattle.plan_layout.specs.LineArrays.{known_rows_by_edge, remote_by_edge};
 
-use arrays::{no_edges, no_processes, wide};
+use arrays::{wide, zeros};
 use limits::{EDGES, PROCESSES, STARTS};
 use plan::EdgeTable;
 
@@ -14,13 +14,7 @@ use plan::EdgeTable;
 fn counts_as_any(any: u32, first: u32, end: u32) -> u32
     ensures { result ≡ as_any_of any first end }
 {
-    if any == 0 {
-        return 0;
-    }
-    if first < end {
-        return 1;
-    }
-    0
+    u32::from(any != 0 && first < end)
 }
 
 // Whether each process counts as `any`.
@@ -32,11 +26,9 @@ pub(crate) fn counted_as_any(
     requires { processes ≤ PROCESSES }
     ensures { result ≡ as_any_by_process any first processes }
 {
-    let mut asany = no_processes();
-    let mut i: usize = 0;
-    while i < processes {
+    let mut asany = zeros::<PROCESSES>();
+    for i in 0..processes {
         asany[i] = counts_as_any(any[i], first[i], first[i + 1]);
-        i += 1;
     }
     asany
 }
@@ -58,12 +50,10 @@ pub(crate) fn known_rows(e: EdgeTable, edges: usize, conditionrow: u32) -> [u32;
     requires fact_3 { ((k : ℕ) → at e.condition k < CONDITIONS) }
     ensures { result ≡ known_rows_by_edge e.kind e.condition e.from edges conditionrow }
 {
-    let mut knownby = no_edges();
-    let mut k: usize = 0;
-    while k < edges {
+    let mut knownby = zeros::<EDGES>();
+    for k in 0..edges {
         let row = conditionrow + e.condition[k];
         knownby[k] = known_row(e.kind[k], e.from[k], row);
-        k += 1;
     }
     knownby
 }
@@ -88,13 +78,11 @@ pub(crate) fn remotes(node: [u32; PROCESSES], e: EdgeTable, edges: usize) -> [u3
     requires fact_4 { ((i : ℕ) → at node i < NODES) }
     ensures { result ≡ remote_by_edge node e.from e.to edges }
 {
-    let mut remote = no_edges();
-    let mut k: usize = 0;
-    while k < edges {
+    let mut remote = zeros::<EDGES>();
+    for k in 0..edges {
         let i = wide(e.from[k]);
         let j = wide(e.to[k]);
         remote[k] = receiver(node[i], node[j]);
-        k += 1;
     }
     remote
 }

@@ -12,7 +12,7 @@ ghost use Rattle.plan_order.specs.Orders.{orders_of};
 use crate::by_key::in_groups;
 use crate::by_weight::number_at;
 use crate::urgency::urgencies;
-use arrays::{no_edges, no_processes};
+use arrays::zeros;
 use limits::{EDGES, NONODE, PROCESSES, STARTS};
 use plan::{Pick, Plan, edge_table, process_table};
 
@@ -35,7 +35,7 @@ fn weights(pick: Pick, urgency: [u32; PROCESSES]) -> [u32; PROCESSES]
 {
     match pick {
         Pick::Urgency => urgency,
-        Pick::Number => no_processes(),
+        Pick::Number => zeros(),
     }
 }
 
@@ -44,11 +44,9 @@ fn receiver_weights(weight: &[u32], to: &[u32; EDGES], edges: usize) -> [u32; ED
     requires { edges ≤ EDGES }
     ensures { result ≡ fill EDGES (λ e. at weight.now (at to.now e)) edges }
 {
-    let mut w = no_edges();
-    let mut e: usize = 0;
-    while e < edges {
+    let mut w = zeros::<EDGES>();
+    for e in 0..edges {
         w[e] = number_at(weight, to[e]);
-        e += 1;
     }
     w
 }
@@ -64,11 +62,9 @@ fn sender_keys<'a>(
     ensures { result ≡ fill EDGES (λ e. sender_key (at node.now (at from.now e))
         (at node.now (at to.now e))) edges }
 {
-    let mut key = no_edges();
-    let mut e: usize = 0;
-    while e < edges {
+    let mut key = zeros::<EDGES>();
+    for e in 0..edges {
         key[e] = sender_key(number_at(node, from[e]), number_at(node, to[e]));
-        e += 1;
     }
     key
 }
@@ -95,10 +91,11 @@ pub fn fixed_orders(p: Plan) -> Orders
     let weight = weights(pick, urgency);
     let receiver = receiver_weights(&weight, &e.to, p.edges);
     let sender = sender_keys(&q.node, &e.from, &e.to, p.edges);
-    let none = no_edges();
+    let none = zeros::<EDGES>();
     let a = in_groups(&none, p.edges, &e.to, p.processes);
     let b = in_groups(&weight, p.processes, &q.node, p.slots);
     let c = in_groups(&receiver, p.edges, &sender, p.slots);
+    // A variable for each array: the borrow checker takes no array out of a struct within a literal.
     let intofirst = a.first;
     let into = a.member;
     let dispatchfirst = b.first;

@@ -5,7 +5,7 @@ ghost use Rattle.plan.specs.Tests.{at};
 ghost use Rattle.plan_order.specs.Urgency.{Upward, after, urgencies_of};
 
 use crate::by_weight::number_at;
-use arrays::{greater, no_processes};
+use arrays::zeros;
 use limits::{EDGES, PROCESSES};
 
 // The greatest urgency among those that the edges out of process i lead to, 0 if there are none.
@@ -20,12 +20,10 @@ fn greatest_after<'a>(
     ensures { result ≡ after (at from.now) (at to.now) edges (at urgency.now) i }
 {
     let mut most: u32 = 0;
-    let mut e: usize = 0;
-    while e < edges {
+    for e in 0..edges {
         if from[e] == i {
-            most = greater(most, number_at(urgency, to[e]));
+            most = most.max(number_at(urgency, to[e]));
         }
-        e += 1;
     }
     most
 }
@@ -46,13 +44,10 @@ pub(crate) fn urgencies<'a>(
     ensures { result ≡ urgencies_of (at ticks.now) (at from.now) (at to.now) edges 0
         n ++ replicate (PROCESSES - n) 0 }
 {
-    let mut urgency = no_processes();
-    let mut i = n;
-    while 0 < i {
-        i -= 1;
+    let mut urgency = zeros::<PROCESSES>();
+    for i in (0..n).rev() {
         let later = greatest_after(from, to, edges, &urgency, i as u32);
-        let own = ticks[i];
-        urgency[i] = own + later;
+        urgency[i] = ticks[i] + later;
     }
     urgency
 }

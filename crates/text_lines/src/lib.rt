@@ -24,10 +24,8 @@ pub fn put_word(out: &mut [u8], at: usize, word: &[u8]) -> usize
     ensures { Put out.old out.new at result word.now }
 {
     let mut end = at;
-    let mut i: usize = 0;
-    while i < word.len() {
-        end = put_byte(out, end, word[i]);
-        i += 1;
+    for &b in word {
+        end = put_byte(out, end, b);
     }
     end
 }

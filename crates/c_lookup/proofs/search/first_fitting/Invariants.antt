@@ -1,6 +1,5 @@
 -- `c_lookup::first_fitting` meets its contract: before turn i, what the search from i on finds is the answer.
 use mathlib.Core.Path.{◌≡◌}
-use Prim.Native.Nat.{◌-◌}
 use lib.ListN.{drop}
 use Rattle.model.specs.Table.{entries_of}
 use Rattle.model.specs.Firmware.{words_of}
@@ -11,6 +10,3 @@ abbrev pub invariant-loop-i : goal.invariant-loop-i
 invariant-loop-i l =
     let test = fits_by l.b.node l.b.rows l.node l.tick l.heard l.told in
     find_by test (drop l.first (entries_of (words_of l.bytes))) l.first ≡ find_by test (drop l.i (entries_of (words_of l.bytes))) l.i
-
-abbrev pub decreases-loop-i : goal.decreases-loop-i
-decreases-loop-i l = l.n - l.i

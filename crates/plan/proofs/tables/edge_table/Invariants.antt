@@ -1,6 +1,6 @@
 -- `plan::tables::edge_table` meets its contract: before turn i the first i of each array are filled.
 use mathlib.Core.Path.{◌≡◌}
-use Prim.Native.Nat.{◌≤◌, ◌-◌, min}
+use Prim.Native.Nat.{◌≤◌, min}
 use lib.ListN.{get_or}
 use Rattle.lists.specs.Lists.{fill}
 use Rattle.plan.specs.Memory.{no_edge}
@@ -12,6 +12,3 @@ invariant-loop-i l =
     (l.i ≤ l.n) × (l.n ≡ min l.p.edges 128) × (l.from ≡ fill 128 (λ k. (get_or l.p.edge k no_edge).from) l.i) × (l.to ≡ fill 128 (λ k. (get_or l.p.edge k no_edge).to) l.i)
     × (l.bytes ≡ fill 128 (λ k. (get_or l.p.edge k no_edge).bytes) l.i) × (l.kind ≡ fill 128 (λ k. kind_number (get_or l.p.edge k no_edge).when) l.i)
     × (l.condition ≡ fill 128 (λ k. condition_number (get_or l.p.edge k no_edge).when) l.i)
-
-abbrev pub decreases-loop-i : goal.decreases-loop-i
-decreases-loop-i l = l.n - l.i

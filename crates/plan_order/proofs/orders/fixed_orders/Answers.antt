@@ -8,7 +8,7 @@ use Rattle.plan.proofs.TestsOnLines.{Few}
 use Rattle.plan_order.specs.Orders.{orders_of}
 use Rattle.plan_order.proofs.OrdersOfModel.{counts, upward, few_ticks, same_weights, same_dispatch_order, same_queue, same_into, same_dispatch, same_queues}
 use Rattle.plan_order.proofs.orders.fixed_orders.Goals as goal
-use Rattle.plan_order.proofs.orders.fixed_orders.Goals.{After-edge_table-e, After-in_groups-a, After-no_edges-none, After-receiver_weights-receiver, After-weights-weight}
+use Rattle.plan_order.proofs.orders.fixed_orders.Goals.{After-edge_table-e, After-in_groups-a, After-zeros-none, After-receiver_weights-receiver, After-weights-weight}
 
 abbrev made-4 : After-weights-weight → After-edge_table-e
 made-4 c = c.before.before.before.before.before.before
@@ -16,7 +16,7 @@ made-4 c = c.before.before.before.before.before.before
 abbrev made-3 : After-receiver_weights-receiver → After-edge_table-e
 made-3 c = made-4 c.before.before.before
 
-abbrev made-2 : After-no_edges-none → After-edge_table-e
+abbrev made-2 : After-zeros-none → After-edge_table-e
 made-2 c = made-3 c.before.before.before.before.before.before
 
 abbrev made-1 : After-in_groups-a → After-edge_table-e
@@ -63,7 +63,7 @@ returns c =
     let q = c.process_table-q.ensures in
     let e = c.edge_table-e.ensures in
     let v = same_weights p h q e c.urgencies-urgency.result c.urgencies-urgency.ensures c.weights-weight.ensures in
-    let into = same_into p h q e c.no_edges-none.ensures c.in_groups-a.ensures in
+    let into = same_into p h q e c.zeros-none.ensures c.in_groups-a.ensures in
     let dispatch = same_dispatch p h q e (same_dispatch_order p h q e c.weights-weight.result v) c.in_groups-b.ensures in
     let queue = same_queues p h q e c.sender_keys-sender.ensures (same_queue p h q e c.weights-weight.result v c.receiver_weights-receiver.ensures) c.in_groups-c.ensures in
     λ j.

@@ -25,7 +25,7 @@ loop-e-preserved c =
     let t = c.loop-e-test.true in (
       search rules,
       elim c.if-from-e.branch [
-        | then-from-e w ↦ most_taken f g a.edges l.e l.most t (eq-eqb _ _ w.if-from-e.true) l.invariant.1 (w.most-is ∙ w.greater-most.ensures ∙ ap (max l.most) w.number_at.ensures)
+        | then-from-e w ↦ most_taken f g a.edges l.e l.most t (eq-eqb _ _ w.if-from-e.true) l.invariant.1 (w.most-is ∙ w.max-most.ensures ∙ ap (max l.most) w.number_at.ensures)
         | else-from-e w ↦ most_left f g a.edges l.e l.most t (ne_eqb _ _ w.if-from-e.false) l.invariant.1 w.most-is
       ],
     )

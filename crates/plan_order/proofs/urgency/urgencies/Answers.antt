@@ -8,7 +8,7 @@ use Rattle.plan_order.proofs.urgency.urgencies.Goals as goal
 pub loop-i-init : goal.loop-i-init
 loop-i-init c =
     let a = c.args in
-    sofar_start (at a.ticks.now) (at a.from.now) (at a.to.now) a.edges a.n c.no_processes-urgency.ensures
+    sofar_start (at a.ticks.now) (at a.from.now) (at a.to.now) a.edges a.n c.zeros-urgency.ensures
 
 pub slice_bounds-greatest_after-end : goal.slice_bounds-greatest_after-end
 slice_bounds-greatest_after-end c = sym c.loop-i.invariant.long

@@ -5,6 +5,3 @@ use Rattle.plan_order.proofs.urgency.urgencies.Given as goal
 
 abbrev pub invariant-loop-i : goal.invariant-loop-i
 invariant-loop-i l = Sofar (at l.ticks) (at l.from) (at l.to) l.edges l.n l.urgency l.i
-
-abbrev pub decreases-loop-i : goal.decreases-loop-i
-decreases-loop-i l = l.i
