@@ -16,7 +16,7 @@ use Rattle.lists.specs.Lists.{below, fill}
 use Rattle.lists.proofs.Tests.{two}
 use Rattle.lists.proofs.Keep.{length_upfrom, getD_upfrom, map_upfrom, map_map}
 use Rattle.lists.proofs.Places.{list_below}
-use Rattle.lists.proofs.Fill.{fill_at, fill_past}
+use Rattle.lists.proofs.Fill.{fill_at, fill_past, fill_each}
 use Rattle.plan.specs.Memory.{counted}
 
 module _ {A B : Type 0} (f : A → B) (d : A) (n : ℕ) (xs : List A) where
@@ -58,3 +58,10 @@ counted_front {A} f d hold same ys room xs l =
     back : (zs : List _) → map (λ y. f (hold y)) zs ≡ zs
     back [] = refl
     back (z ∷ zs) = λ i. same z i ∷ back zs i
+
+-- One number of each line, in an array that holds 0 past the lines, is that number of the line everywhere, if the empty
+-- line has 0 there.
+pub in_column : {A : Type 0} (h : A → ℕ) (d : A) (xs : List A) (size : ℕ) → h d ≡ 0 → length xs ≤ size → (i : ℕ) →
+    get_or (fill size (λ k. h (get_or xs k d)) (length xs)) i 0 ≡ h (get_or xs i d)
+in_column h d xs size z u =
+    fill_each (λ k x. x ≡ h (get_or xs k d)) size (λ k. h (get_or xs k d)) (length xs) u (λ k l. refl) (λ k l. sym (ap h (get_or-eq_default xs d l) ∙ z))
