@@ -1,6 +1,5 @@
 pub mod Memory
 pub mod Bounds
 pub mod Numbers
-pub mod Tables
 pub mod Tests
 pub mod Kinds

@@ -68,10 +68,10 @@ module _ (p : Plan) (h : plan_refusal (lines p) ≡ nothing) where
 
   -- the lines in memory
   module _ (ps : List Process) (es : List Edge) (eq : map process_of ps ≡ (lines p).processes) (et : map edge_of es ≡ (lines p).edges) where
-    processes_same : length ps ≡ length (lines p).processes
+    pub processes_same : length ps ≡ length (lines p).processes
     processes_same = sym (length-map ps process_of) ∙ ap length eq
 
-    edges_same : length es ≡ length (lines p).edges
+    pub edges_same : length es ≡ length (lines p).edges
     edges_same = sym (length-map es edge_of) ∙ ap length et
 
     pub few_processes : length ps ≤ 64
@@ -80,10 +80,10 @@ module _ (p : Plan) (h : plan_refusal (lines p) ≡ nothing) where
     pub few_edges : length es ≤ 128
     few_edges = omega (arith, edges_same, edges_length p, counts.edges)
 
-    process_same : (i : ℕ) → process_of (get_or ps i no_process) ≡ process (lines p) i
+    pub process_same : (i : ℕ) → process_of (get_or ps i no_process) ≡ process (lines p) i
     process_same i = sym (get_or-map process_of ps i no_process) ∙ ap (λ (xs : List m.Process). get_or xs i (process_of no_process)) eq
 
-    edge_same : (e : ℕ) → edge_of (get_or es e no_edge) ≡ edge (lines p) e
+    pub edge_same : (e : ℕ) → edge_of (get_or es e no_edge) ≡ edge (lines p) e
     edge_same e = sym (get_or-map edge_of es e no_edge) ∙ ap (λ (xs : List m.Edge). get_or xs e (edge_of no_edge)) et
 
     node : {ns : List ℕ} → ns ≡ fill 64 (node_at ps) (length ps) → (i : ℕ) → at ns i ≡ (process (lines p) i).node
