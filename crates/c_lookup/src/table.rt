@@ -6,9 +6,10 @@ ghost use Rattle.model.specs.Lookup as m;
 ghost use Rattle.plan.specs.Memory.{lines};
 ghost use Rattle.kernel.specs.Finding.{found_of};
 
-use crate::search::first_fitting;
+use crate::search::bytes_fit;
 use arrays::wide;
-use kernel::row_nodes;
+use c_words::how_many;
+use kernel::{first_entry, row_nodes};
 use plan::Plan;
 
 // The kernel lookup over the bytes of a table, for a plan in which refusals 2 to 9 find nothing: the number of the
@@ -30,5 +31,9 @@ pub(crate) fn lookup_bytes(
         return None;
     }
     let b = row_nodes(p);
-    first_fitting(bytes, first, b, node, tick, heard, values)
+    first_entry(
+        how_many(bytes) / 5,
+        first,
+        &|i| bytes_fit(bytes, i, &b, node, tick, heard, values),
+    )
 }

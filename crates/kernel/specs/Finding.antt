@@ -1,12 +1,13 @@
 -- What the lookup's answer stands for, the nodes of a plan's rows, and the search by them over a table's entries.
 -- Assumes nothing.
-use Rattle.std.specs.Prelude.{Bool, true, false, ◌&&◌, List, [], ◌∷◌, Option, None, Some, Result, Ok, Err, ℕ, suc, eqb, ltb}
+use Rattle.std.specs.Prelude.{◌≡◌, ◌<◌, ◌/◌, Bool, true, false, ◌&&◌, List, [], ◌∷◌, Option, None, Some, Result, Ok, Err, ℕ, suc, eqb, ltb, length}
 use Rattle.limits.specs.Limits.{ROWS}
 use Rattle.lists.specs.Lists.{fill}
 use Rattle.model.specs.Bus.{rows, row_node}
 use Rattle.model.specs.Table.{Entry, bits_met}
 use Rattle.model.specs.Lookup.{entry, none, refusal}
 use Rattle.model.specs.Lookup as m
+use Rattle.kernel_rows.specs.Entries.{entry_at}
 use Rattle.plan.specs.declared.Plan.{Plan}
 use Rattle.plan.specs.Memory.{lines}
 use Rattle.plan.specs.Tests.{at}
@@ -36,3 +37,8 @@ fits_by nodes rows n t h v e =
 unfoldable pub find_by : (Entry → Bool) → List Entry → ℕ → m.Found
 find_by f [] i = none
 find_by f (e ∷ es) i = elim (f e) [ true ↦ entry i | false ↦ find_by f es (suc i) ]
+
+-- n entries of words, of which `told` tells whether each passes a test
+pub record TestsOf (told : ℕ → Bool → Type 0) (n : ℕ) (test : Entry → Bool) (words : List ℕ) : Type 0 where
+  pub count : n ≡ length words / 5
+  pub tests : (i : ℕ) (b : Bool) → i < n → told i b → b ≡ test (entry_at words i)

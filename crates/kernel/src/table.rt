@@ -7,7 +7,7 @@ ghost use Rattle.refusals.specs.Numbers.{numbered};
 ghost use Rattle.kernel.specs.Finding.{found_of};
 
 use crate::nodes::row_nodes;
-use crate::search::first_fitting;
+use crate::search::{entry_fits, first_entry};
 use arrays::wide;
 use plan::Plan;
 use plan_refusals::refuse;
@@ -32,7 +32,11 @@ fn found_in(
         return None;
     }
     let b = row_nodes(p);
-    first_fitting(table, first, b, node, tick, heard, values)
+    first_entry(
+        table.len() / 5,
+        first,
+        &|i| entry_fits(table, i, &b.node, b.rows, node, tick, heard, values),
+    )
 }
 
 // The kernel lookup: the number of the first entry, from number `first` on, of a node at a tick whose known bits are

@@ -1,5 +1,5 @@
--- Of a plan in memory and its lines: how many the lines are, what refusals 2 and 6 leave, the parts of the arrays that
--- are the lines, and the tables of numbers that are made of them.
+-- Of a plan in memory and its lines: how many the lines are, what refusals 2 and 6 leave, and the parts of the arrays
+-- that are the lines.
 -- Assumes nothing.
 use mathlib.Core.Path.{◌≡◌, refl, sym, ◌∙◌}
 use mathlib.Core.Bool.{false, ◌&&◌, ◌||◌}
@@ -9,7 +9,7 @@ use mathlib.Core.List.{List, [], ◌∷◌, map, Memᴰ as In}
 use Prim.Native.Nat.{ℕ, ◌+◌, ◌*◌, ◌≤◌, ◌<◌}
 use native.Mathlib.Omega.{arith}
 use lib.Dec.{eqb, leb, ltb}
-use lib.ListN.{length, get_or, take}
+use lib.ListN.{length, take}
 use borrow.Author.Tests.{ltb-false, leb-false, eqb-true, eq-eqb}
 use Rattle.std.proofs.lemmas.List.{get_or-take, length-take-le}
 use Rattle.lists.specs.Lists.{any, repeated}
@@ -17,7 +17,7 @@ use Rattle.lists.proofs.Keep.{map_upfrom}
 use Rattle.lists.proofs.Tests.{both, join, neither, same_test}
 use Rattle.lists.proofs.Members.{none_at, any_same, any_of_map}
 use Rattle.lists.proofs.Places.{list_below}
-use Rattle.model.specs.Plan.{Lines, Edge, process, edge, decider}
+use Rattle.model.specs.Plan.{Lines, Edge, edge, decider}
 use Rattle.model.specs.Refusals.{outside, wrong_counts, no_process, wrong_ends, twin_edges}
 use Rattle.plan.specs.declared.When as w
 use Rattle.plan.specs.declared.When.TheVariants.{Always, True, False}
@@ -26,9 +26,9 @@ pub use Rattle.plan.specs.Bounds.{Few, Ended}
 use Rattle.plan.specs.Memory.{when_of, process_of, edge_of, no_slot, no_edge, counted, lines}
 use Rattle.plan.specs.Memory as memory
 use Rattle.plan.specs.Kinds.{kind_of, condition_of}
-use Rattle.plan.specs.Tables.{kind_number, condition_number, processes_table, edges_table}
+use Rattle.plan.specs.Numbers.{kind_number, condition_number}
 use Rattle.plan.specs.Tests.{at, counts_test}
-use Rattle.plan.proofs.Counted.{counted_length, counted_at, column}
+use Rattle.plan.proofs.Counted.{counted_length, counted_at}
 use Rattle.plan.proofs.Taken.{taken}
 
 inside : (lo hi x : ℕ) → outside lo hi x ≡ false → x ≤ hi
@@ -48,13 +48,13 @@ few p h =
       edges = ltb-false 128 p.edges a.1;
     }
 
-same_kind : (x : w.When) → kind_number x ≡ kind_of (when_of x)
+pub same_kind : (x : w.When) → kind_number x ≡ kind_of (when_of x)
 unfolding kind_of
 same_kind Always = refl
 same_kind (True k) = refl
 same_kind (False k) = refl
 
-same_condition : (x : w.When) → condition_number x ≡ condition_of (when_of x)
+pub same_condition : (x : w.When) → condition_number x ≡ condition_of (when_of x)
 unfolding condition_of
 same_condition Always = refl
 same_condition (True k) = refl
@@ -139,34 +139,3 @@ module _ (p : Plan) where
   pub edges_taken : p.edges ≤ length p.edge → map edge_of (take p.edges p.edge) ≡ (lines p).edges
   unfolding lines
   edges_taken l = taken edge_of no_edge p.edges p.edge l
-
-  module _ (f : Few p) where
-    pub process_node : (i : ℕ) → at (processes_table p).node i ≡ (process (lines p) i).node
-    unfolding lines processes_table
-    process_node i = column process_of memory.no_process p.processes p.process (λ q. q.node) 64 _ (λ k. refl) refl f.processes i
-
-    pub process_ticks : (i : ℕ) → at (processes_table p).ticks i ≡ (process (lines p) i).ticks
-    unfolding lines processes_table
-    process_ticks i = column process_of memory.no_process p.processes p.process (λ q. q.ticks) 64 _ (λ k. refl) refl f.processes i
-
-    pub edge_from : (i : ℕ) → at (edges_table p).from i ≡ (edge (lines p) i).from
-    unfolding lines edges_table
-    edge_from i = column edge_of no_edge p.edges p.edge (λ e. e.from) 128 _ (λ k. refl) refl f.edges i
-
-    pub edge_to : (i : ℕ) → at (edges_table p).to i ≡ (edge (lines p) i).to
-    unfolding lines edges_table
-    edge_to i = column edge_of no_edge p.edges p.edge (λ e. e.to) 128 _ (λ k. refl) refl f.edges i
-
-    pub edge_bytes : (i : ℕ) → at (edges_table p).bytes i ≡ (edge (lines p) i).bytes
-    unfolding lines edges_table
-    edge_bytes i = column edge_of no_edge p.edges p.edge (λ e. e.bytes) 128 _ (λ k. refl) refl f.edges i
-
-    pub edge_kind : (i : ℕ) → at (edges_table p).kind i ≡ kind_of (edge (lines p) i).when
-    unfolding lines edges_table kind_of
-    edge_kind i =
-        column edge_of no_edge p.edges p.edge (λ e. kind_of e.when) 128 _ (λ k. same_kind (get_or p.edge k no_edge).when) refl f.edges i
-
-    pub edge_condition : (i : ℕ) → at (edges_table p).condition i ≡ condition_of (edge (lines p) i).when
-    unfolding lines edges_table condition_of
-    edge_condition i =
-        column edge_of no_edge p.edges p.edge (λ e. condition_of e.when) 128 _ (λ k. same_condition (get_or p.edge k no_edge).when) refl f.edges i

@@ -1,5 +1,5 @@
 pub mod Memory
 pub mod Bounds
-pub mod Tables
+pub mod Numbers
 pub mod Tests
 pub mod Kinds

@@ -1,13 +1,12 @@
-// The plan in memory: structs by value, counts and arrays, its lines as parts of the arrays (held) and as tables of
-// numbers, and the tests that refusals 2 to 9 are made of: on the counts, one number or one line (fields), and of what
-// stands twice (any_tests). `lines` in specs/Memory.antt says which lines of document 01 a plan stands for.
+// The plan in memory: structs by value, counts and arrays, its lines as parts of the arrays (held), and the tests that
+// refusals 2 to 9 are made of: on the counts, one number or one line (fields), and of what stands twice (any_tests).
+// `lines` in specs/Memory.antt says which lines of document 01 a plan stands for.
 // Document 01: "Two plans in memory are the same if the lines they stand for are."
 #![tactic(auto)]
 
 mod any_tests;
 mod fields;
 mod held;
-mod tables;
 
 ghost use Rattle.std.specs.Prelude.{◌≡◌};
 ghost use Rattle.plan.specs.Memory.{empty_plan};
@@ -17,7 +16,6 @@ pub use fields::{
     has_long_message, has_wrong_ends, has_wrong_when, is_outside, wrong_counts, wrong_plan_line,
 };
 use limits::{CONDITIONS, EDGES, PROCESSES, SLOTS};
-pub use tables::{EdgeTable, ProcessTable, edge_table, process_table};
 
 // "`pick` is `urgency` or `number`"
 #[derive(Clone, Copy, Debug, PartialEq, Eq)]

@@ -10,6 +10,7 @@ use standard_input::read_all;
 use std::io;
 
 // Prints what the input is answered with.
+// The new form is no plainer: one `print` for both programs asks of a closure that its count lies within its array.
 fn print(rt: &HostRuntime, input: &[u8]) -> io::Result<()> {
     let mut out = [0u8; VERDICT];
     let n = print_check(input, &mut out);

@@ -11,6 +11,7 @@ use standard_input::read_all;
 use std::io;
 
 // Prints what the text is answered with.
+// The new form is no plainer: one `print` for both programs asks of a closure that its count lies within its array.
 fn print(rt: &HostRuntime, text: &[u8]) -> io::Result<()> {
     let mut out = [0u8; LISTING];
     let n = print_all(text, &mut out);

@@ -51,6 +51,7 @@ fn put_number(out: &mut [u8], at: usize, n: u32) -> usize
 }
 
 // Puts a label and the number after it.
+// The new form is no plainer: that of `listing_bytes` needs room for them, and this one counts what has none.
 pub fn put_labelled(out: &mut [u8], at: usize, label: &[u8], n: u32) -> usize
     requires { Counts at (label.now ++ decimal n) }
     ensures { Put out.old out.new at result (label.now ++ decimal n) }
