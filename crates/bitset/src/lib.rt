@@ -3,7 +3,7 @@
 // Document 01: "pending broadcasts as mask: trailing zeros gives the next, ones gives their number"
 #![tactic(auto)]
 
-ghost use Rattle.std.specs.Prelude.{◌≡◌, ◌∷◌, ◌^◌, ◌≤◌, ◌<◌, length, drop};
+ghost use Rattle.std.specs.Prelude.{◌≡◌, ◌∷◌, ◌+◌, ◌*◌, ◌^◌, ◌≤◌, ◌<◌, length, drop};
 ghost use Rattle.limits.specs.Limits.{CONDITIONS};
 ghost use Rattle.lists.specs.Lists.{null};
 ghost use Rattle.bitset.specs.Masks.{members, nodes, under};
@@ -40,18 +40,16 @@ pub fn without_lowest(mask: u32) -> u32
     mask & (mask - 1)
 }
 
-// A mask with one bit more below its lowest.
+// A mask, of conditions or of nodes, with one bit more below its lowest.
 pub fn with_bit(mask: u32, set: bool) -> u32
-    requires { mask < 32 }
-    ensures { (result ≡ under set mask) × (result < 64) }
+    requires { mask < 128 }
+    ensures { (result ≡ under set mask) × (result ≤ 2 * mask + 1) }
 {
-    if set {
-        return mask * 2 + 1;
-    }
-    mask * 2
+    mask * 2 + u32::from(set)
 }
 
-// The lowest node of a mask of nodes.
+// The lowest node of a mask of nodes. One function for this and `lowest` would be no plainer: its contract would name
+// the mask's width, and each caller would show it; the same of `without_lowest_node`.
 pub fn lowest_node(those: u32) -> u32
     requires { (0 < those) × (those < 256) }
     ensures { nodes those ≡ result ∷ drop 1 (nodes those) }
@@ -67,27 +65,10 @@ pub fn without_lowest_node(those: u32) -> u32
     those & (those - 1)
 }
 
-// A mask of nodes with one node more below its lowest.
-pub fn with_node(mask: u32, set: bool) -> u32
-    requires { mask < 128 }
-    ensures { (result ≡ under set mask) × (result < 256) }
-{
-    if set {
-        return mask * 2 + 1;
-    }
-    mask * 2
-}
-
 // How many combinations some conditions have.
 pub fn combinations_of(conditions: usize) -> u32
     requires { conditions ≤ CONDITIONS }
     ensures { (result ≡ 2 ^ conditions) × (result ≤ 64) }
 {
-    let mut n: u32 = 1;
-    let mut k: usize = 0;
-    while k < conditions {
-        n = n * 2;
-        k += 1;
-    }
-    n
+    1 << conditions
 }

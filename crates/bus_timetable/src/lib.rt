@@ -9,13 +9,14 @@ mod search;
 
 ghost use Rattle.std.specs.Prelude.{◌≡◌, ◌≤◌};
 ghost use Rattle.limits.specs.Limits.{BYTES};
+ghost use Rattle.model.specs.Bus.{slot_of, offset};
 ghost use Rattle.model.specs.Refusals.{nothing, plan_refusal};
 ghost use Rattle.plan.specs.Memory.{lines};
-ghost use Rattle.bus_timetable.specs.Bus.{ticks_of, Short, Small, Lasting, Placed, table_of, timetable};
+ghost use Rattle.bus_timetable.specs.Bus.{ticks_of, Short, timetable};
 
 use crate::reciprocal::find_reciprocal;
 use limits::{NODES, NONODE};
-use plan::{Plan, PlanLine, slot_table};
+use plan::{Plan, PlanLine};
 pub use search::{first_beginning, round_beginning};
 
 // The ticks of a round, their reciprocal and, by node, the ticks from a round's beginning to the node's slot, the
@@ -41,32 +42,25 @@ fn slot_ticks(line: PlanLine, bytes: u32) -> u32
     requires { Short line × (bytes ≤ BYTES) }
     ensures { result ≡ ticks_of line bytes }
 {
-    let whole = bytes + line.head;
-    whole * line.byte
+    (bytes + line.head) * line.byte
 }
 
 // The ticks before a node's slot, and its bytes: those of all slots, and 0, where it has none.
-fn find<'a>(
-    slot: &'a [u32; NODES],
-    bytes: &'a [u32; NODES],
-    slots: usize,
-    line: PlanLine,
-    node: u32,
-) -> Place
-    requires { Small line bytes.now slots }
-    ensures { Placed line slot.now bytes.now slots node result }
+fn find(p: &Plan, node: u32) -> Place
+    requires { plan_refusal (lines p.now) ≡ nothing }
+    ensures before { result.offset ≡ offset (lines p.now) node }
+    ensures room { result.bytes ≡ (slot_of (lines p.now) node).bytes }
+    ensures room_most { result.bytes ≤ BYTES }
 {
     let mut sum: u32 = 0;
-    let mut i: usize = 0;
-    while i < slots {
-        let b = bytes[i];
-        let next = sum + slot_ticks(line, b);
-        if slot[i] == node {
-            let offset = sum;
-            return Place { offset, bytes: b };
+    for s in p.slot_lines() {
+        if s.node == node {
+            return Place {
+                offset: sum,
+                bytes: s.bytes,
+            };
         }
-        sum = next;
-        i += 1;
+        sum += slot_ticks(p.line, s.bytes);
     }
     Place {
         offset: sum,
@@ -74,44 +68,26 @@ fn find<'a>(
     }
 }
 
-// The timetable of the slots in these arrays. No slot has node 8, so that the slots before its are all.
-fn of_slots<'a>(
-    slot: &'a [u32; NODES],
-    bytes: &'a [u32; NODES],
-    slots: usize,
-    line: PlanLine,
-) -> Timetable
-    requires { Small line bytes.now slots × Lasting line slot.now bytes.now slots }
-    ensures { result ≡ table_of line slot.now bytes.now slots }
+// The timetable of a plan. No slot has node 8, so that the slots before its are all.
+pub fn of_plan(p: Plan) -> Timetable
+    requires { plan_refusal (lines p) ≡ nothing }
+    ensures { result ≡ timetable (lines p) }
 {
     let mut offset = [0u32; NODES];
     let mut ticks = [0u32; NODES];
-    let mut room = [0u32; NODES];
-    let mut n: usize = 0;
-    while n < slots {
-        let s = find(slot, bytes, slots, line, n as u32);
-        let b = s.bytes;
-        offset[n] = s.offset;
-        ticks[n] = slot_ticks(line, b);
-        room[n] = b;
-        n += 1;
+    let mut bytes = [0u32; NODES];
+    for n in 0..p.slots {
+        let place = find(&p, n as u32);
+        offset[n] = place.offset;
+        ticks[n] = slot_ticks(p.line, place.bytes);
+        bytes[n] = place.bytes;
     }
-    let all = find(slot, bytes, slots, line, NONODE);
-    let round = all.offset;
+    let round = find(&p, NONODE).offset;
     Timetable {
         round,
         reciprocal: find_reciprocal(round),
         offset,
         ticks,
-        bytes: room,
+        bytes,
     }
-}
-
-// The timetable of a plan.
-pub fn of_plan(p: Plan) -> Timetable
-    requires { plan_refusal (lines p) ≡ nothing }
-    ensures { result ≡ timetable (lines p) }
-{
-    let s = slot_table(p);
-    of_slots(&s.node, &s.bytes, p.slots, p.line)
 }

@@ -16,10 +16,8 @@ fn doubled(round: u32, s: Share) -> Share
     requires { (s.rest < round) × (round ≤ ROUNDTICKS) × (s.whole + s.whole < SCALE) }
     ensures { (v : ℕ) → Shared round v s → Shared round (v + v + 1) result }
 {
-    let w = s.whole;
-    let r = s.rest;
-    let whole = w + w;
-    let rest = r + r + 1;
+    let whole = s.whole + s.whole;
+    let rest = s.rest + s.rest + 1;
     if rest < round {
         return Share { whole, rest };
     }
@@ -35,10 +33,8 @@ pub(crate) fn find_reciprocal(round: u32) -> u32
     ensures { result ≡ reciprocal_of round }
 {
     let mut s = Share { whole: 0, rest: 0 };
-    let mut i: u32 = 0;
-    while i < 31 {
+    for _turn in 0u32..31 {
         s = doubled(round, s);
-        i += 1;
     }
     s.whole
 }

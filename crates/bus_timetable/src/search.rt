@@ -7,14 +7,13 @@ ghost use Rattle.std.specs.Prelude.{◌≡◌, ◌*◌, ◌/◌, ◌≤◌, ◌<
 ghost use Rattle.limits.specs.Limits.{ROUNDTICKS};
 ghost use Rattle.bus_timetable.specs.Bus.{SCALE, beginning_at, round_beginning_at, reciprocal_of, Carried};
 
-use arrays::long;
-
-// How many rounds lie in so many ticks, or one less. What divides is 2 to the 31, a number that stands there.
+// How many rounds lie in so many ticks, or one less. What divides is 2 to the 31, a number that stands there,
+// as a test of the sources asks.
 fn rounds_in(ticks: u32, reciprocal: u32) -> u32
     requires { (ticks < SCALE) × (reciprocal < SCALE) }
     ensures { result ≡ ticks * reciprocal / SCALE }
 {
-    (long(ticks) * long(reciprocal) / 2147483648) as u32
+    (u64::from(ticks) * u64::from(reciprocal) / 2147483648) as u32
 }
 
 // The beginning of the round that a tick lies in, where `begun` is the beginning of a round at or before the tick. In

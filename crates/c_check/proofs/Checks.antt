@@ -3,41 +3,31 @@
 use mathlib.Core.Path.{◌≡◌, refl, ap, ◌∙◌}
 use mathlib.Core.List.{List}
 use Prim.Native.Nat.{ℕ, ◌-◌}
-use Rattle.model.specs.Refusals as m
-use Rattle.model.specs.Refusals.{nothing, refused}
+use Rattle.std.specs.Prelude.{Result}
+use Rattle.model.specs.Plan.{Lines}
+use Rattle.model.specs.Refusals.{Refusal, nothing, refused}
 use Rattle.model.specs.Text.{reads, not_read, AnswersText}
 use Rattle.model.specs.Firmware.{words_of}
 use Rattle.model.specs.Checking.{table_refusal}
-use Rattle.plan.specs.Memory.{lines}
-use Rattle.plan_refusals.specs.declared.sentences.Refusal.TheVariants.{Nothing, Refused}
-use Rattle.text_reader.specs.Answer.{reading_of}
-use Rattle.text_reader.specs.declared.reader.Read.{Read}
-use Rattle.text_reader.proofs.ReadCases.{told_refused, told_read}
-use Rattle.checker_table.specs.declared.verdict.Checked.{Checked}
 use Rattle.checker_table.specs.Verdict.{answer_of}
 use Rattle.c_check.specs.Checks.{checked_of, checked_number, checked_answer, Checks}
 
-pub same_number : (x : m.Refusal) → checked_answer (answer_of x) ≡ checked_number x
+pub same_number : (x : Refusal) → checked_answer (answer_of x) ≡ checked_number x
 unfolding answer_of checked_number
 same_number nothing = refl
 same_number (refused n) = refl
 
-module _ (text : List ℕ) (r : Read) (told : AnswersText text (reading_of r)) (table : List ℕ) (delay answer : ℕ) where
-  pub refused_checks : (k : ℕ) → r.refusal ≡ Refused k → answer ≡ 18446744073709551615 - k → Checks text table delay answer
+module _ {text : List ℕ} (table : List ℕ) (delay answer : ℕ) where
+  pub refused_checks : (k : ℕ) → AnswersText text (not_read k) → answer ≡ 18446744073709551615 - k → Checks text table delay answer
   unfolding checked_of checked_number
-  refused_checks k e q =
-      record {
-        reading = not_read k;
-        of_text = told_refused text r told k e;
-        number = q;
-      }
+  refused_checks k told q = record { reading = not_read k; of_text = told; number = q }
 
-  pub read_checks : (c : Checked) → r.refusal ≡ Nothing → c ≡ answer_of (table_refusal (lines r.plan) (words_of table) delay) → answer ≡ checked_answer c →
+  pub read_checks : (p : Lines) (c : Result (Unit {0}) ℕ) → AnswersText text (reads p) → c ≡ answer_of (table_refusal p (words_of table) delay) → answer ≡ checked_answer c →
       Checks text table delay answer
   unfolding checked_of
-  read_checks c e q a =
+  read_checks p c told q a =
       record {
-        reading = reads (lines r.plan);
-        of_text = told_read text r told e;
-        number = a ∙ ap checked_answer q ∙ same_number (table_refusal (lines r.plan) (words_of table) delay);
+        reading = reads p;
+        of_text = told;
+        number = a ∙ ap checked_answer q ∙ same_number (table_refusal p (words_of table) delay);
       }

@@ -7,19 +7,21 @@ ghost use Rattle.model.specs.Firmware.{words_of};
 ghost use Rattle.model.specs.Refusals.{nothing, plan_refusal};
 ghost use Rattle.model.specs.Checking.{table_refusal};
 ghost use Rattle.plan.specs.Memory.{lines};
+ghost use Rattle.refusals.specs.Numbers.{numbered};
 ghost use Rattle.checker_table.specs.Verdict.{answer_of};
 
 use crate::many_entries::check_many;
 use c_words::{entry_words, read_words};
-use checker_table::{Checked, check_words};
+use checker_table::check_words;
 use limits::TABLEWORDS;
 use plan::Plan;
+use refusals::Refusal;
 
 // Checks a table of at most 12,672 entries: its n words are copied and checked.
-fn check_few(p: Plan, bytes: &[u8], n: usize, delay: u64) -> Checked
+fn check_few(p: Plan, bytes: &[u8], n: usize, delay: u64) -> Result<(), Refusal>
     requires fact_1 { plan_refusal (lines p) ≡ nothing }
     requires fact_2 { (n ≡ length (words_of bytes.now)) × (n ≤ TABLEWORDS) }
-    ensures { result ≡ answer_of (table_refusal (lines p) (words_of bytes.now) delay) }
+    ensures { numbered result ≡ answer_of (table_refusal (lines p) (words_of bytes.now) delay) }
 {
     let mut words = entry_words();
     read_words(bytes, 0, &mut words[..n]);
@@ -28,13 +30,13 @@ fn check_few(p: Plan, bytes: &[u8], n: usize, delay: u64) -> Checked
 
 // Checks any bytes as a start table, words of four bytes, the lowest first, with the delay stated for it, for a plan in
 // which refusals 2 to 9 find nothing.
-pub(crate) fn check_bytes(p: Plan, bytes: &[u8], delay: u64) -> Checked
+pub(crate) fn check_bytes(p: Plan, bytes: &[u8], delay: u64) -> Result<(), Refusal>
     requires { plan_refusal (lines p) ≡ nothing }
-    ensures { result ≡ answer_of (table_refusal (lines p) (words_of bytes.now) delay) }
+    ensures { numbered result ≡ answer_of (table_refusal (lines p) (words_of bytes.now) delay) }
 {
     let n = c_words::how_many(bytes);
     if n % 5 != 0 {
-        return Checked::Refused(12);
+        return Err(Refusal::WordCount);
     }
     if n <= TABLEWORDS {
         return check_few(p, bytes, n, delay);

@@ -1,20 +1,20 @@
 // A start table lent as bytes, checked for a plan text and answered as one number.
 ghost use Rattle.std.specs.Prelude.{◌≡◌};
+ghost use Rattle.refusals.specs.Numbers.{numbered};
 ghost use Rattle.c_check.specs.Checks.{Checks, checked_answer};
 
 use crate::table::check_bytes;
-use c_words::refused;
-use checker_table::Checked;
-use plan_refusals::Refusal;
+use c_words::answered;
+use refusals::Refusal;
 use text_reader::read_plan;
 
 // The number in which the checker's answer is given: 0 for an accepted table, or the refusal.
-pub fn checked(c: Checked) -> u64
-    ensures { result ≡ checked_answer c }
+pub fn checked(answer: Result<(), Refusal>) -> u64
+    ensures { result ≡ checked_answer (numbered answer) }
 {
-    match c {
-        Checked::Accepted => 0,
-        Checked::Refused(n) => refused(n),
+    match answer {
+        Ok(()) => 0,
+        Err(refusal) => answered(Err(refusal)),
     }
 }
 
@@ -23,13 +23,8 @@ pub fn checked(c: Checked) -> u64
 pub fn check_text(text: &[u8], table: &[u8], delay: u64) -> u64
     ensures { Checks text.now table.now delay result }
 {
-    let read = read_plan(text);
-    let refusal = read.refusal;
-    match refusal {
-        Refusal::Refused(n) => refused(n),
-        Refusal::Nothing => {
-            let p = read.plan;
-            checked(check_bytes(p, table, delay))
-        }
+    match read_plan(text) {
+        Ok(p) => checked(check_bytes(p, table, delay)),
+        Err(refusal) => checked(Err(refusal)),
     }
 }

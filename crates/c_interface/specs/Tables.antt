@@ -4,8 +4,6 @@
 use Rattle.std.specs.Prelude.{ℕ, ◌-◌, ◌*◌, ◌/◌, ◌≡◌, List, length}
 use Rattle.model.specs.Text.{Reading, reads, not_read, AnswersText}
 use Rattle.model.specs.Table.{Answer, turned_down, made, entry_words, plan_answer}
-use Rattle.c_plan.specs.declared.table.Put.{Put}
-use Rattle.c_plan.specs.declared.table.Put.TheVariants.{Wrote, Refused}
 use Rattle.c_plan.specs.Filled.{Filled}
 
 -- the planner's answer for what was read, given how many words are lent for entries and for frames
@@ -17,11 +15,6 @@ planned_of (not_read n) words room = turned_down n
 unfoldable pub table_number : Answer → ℕ
 table_number (turned_down n) = 18446744073709551615 - n
 table_number (made r) = 4 * length (entry_words r.entries)
-
--- the same of the answer for a plan put into lent bytes
-abbrev pub put_answer : Put → ℕ
-put_answer (Wrote n) = n
-put_answer (Refused n) = 18446744073709551615 - n
 
 -- an answer of the planner, put into lent bytes, and the number answered for it
 pub record Puts (a : Answer) (table frames totals table-now frames-now totals-now : List ℕ) (answer : ℕ) : Type 0 where

@@ -1,13 +1,10 @@
 // The planner over a plan text: the listing, and the table, the frame list and the totals as bytes, words
 // little-endian.
-ghost use Rattle.std.specs.Prelude.{◌≡◌};
 ghost use Rattle.c_text.specs.Listing.{Lists};
-ghost use Rattle.c_interface.specs.Tables.{Tables, put_answer};
+ghost use Rattle.c_interface.specs.Tables.{Tables};
 
-use c_plan::{Put, put_plan};
-use c_text::listed;
-use c_words::refused;
-use plan_refusals::Refusal;
+use c_plan::put_plan;
+use c_words::answered;
 use program::list_plan;
 use text_reader::read_plan;
 
@@ -19,18 +16,7 @@ use text_reader::read_plan;
 pub extern "C" fn riscadru_plan_listing(text: &[u8], out: &mut [u8]) -> u64
     ensures { Lists text.now out.old out.new result }
 {
-    listed(list_plan(text, out))
-}
-
-// The number in which the answer for a plan put into lent bytes is given: how many bytes of the table were written, or
-// the refusal.
-fn put(p: Put) -> u64
-    ensures { result ≡ put_answer p }
-{
-    match p {
-        Put::Wrote(n) => n as u64,
-        Put::Refused(n) => refused(n),
-    }
+    answered(list_plan(text, out))
 }
 
 // Reads a plan text and plans it: the start table goes to the front of `table`, the frame list to the front of
@@ -48,13 +34,8 @@ pub extern "C" fn riscadru_plan_table(
     ensures { Tables text.now table.old frames.old totals.old
         table.new frames.new totals.new result }
 {
-    let read = read_plan(text);
-    let refusal = read.refusal;
-    match refusal {
-        Refusal::Refused(n) => refused(n),
-        Refusal::Nothing => {
-            let p = read.plan;
-            put(put_plan(p, table, frames, totals))
-        }
+    match read_plan(text) {
+        Ok(p) => answered(put_plan(p, table, frames, totals)),
+        Err(refusal) => answered(Err(refusal)),
     }
 }

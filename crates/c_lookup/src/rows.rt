@@ -1,54 +1,30 @@
 // The row query over the bytes of a table: its words, four bytes each, are read where they lie.
-ghost use Rattle.std.specs.Prelude.{◌≡◌, ◌+◌, ◌*◌, ◌/◌, ◌≤◌, length, drop};
-ghost use Rattle.model.specs.Table.{entries_of};
+ghost use Rattle.std.specs.Prelude.{◌≡◌, ◌*◌, ◌/◌, ◌≤◌, length};
 ghost use Rattle.model.specs.Firmware.{words_of};
-ghost use Rattle.model.specs.Lookup.{before_row, run_of_row, row_start, row_length};
+ghost use Rattle.model.specs.Lookup.{row_start, row_length};
+ghost use Rattle.kernel_rows.specs.RowRange.{RangeOf};
 
 use c_words::{how_many, word_at};
+use kernel_rows::row_range;
+use std::ops::Range;
 
-// How many entries stand before the first of a row; all of them where no entry is of that row.
-fn entries_before(bytes: &[u8], row: u32) -> usize
-    ensures value { result ≡ before_row row (entries_of (words_of bytes.now)) }
-    ensures upper_bound { result ≤ length (words_of bytes.now) / 5 }
+// The entries of a row, by their numbers: from the first entry of that row to the next of another row.
+fn row_entries(bytes: &[u8], row: u32) -> Range<usize>
+    ensures value { RangeOf (words_of bytes.now) row result.start result.end }
+    ensures result_in_bounds { (result.start ≤ result.end) × (result.end ≤ length (words_of bytes.now) / 5) }
 {
-    let n = how_many(bytes) / 5;
-    let mut i: usize = 0;
-    while i < n {
-        if word_at(bytes, i * 5) == row {
-            return i;
-        }
-        i += 1;
-    }
-    n
-}
-
-// How many entries of a row follow one another from entry `first` on.
-fn entries_from(bytes: &[u8], first: usize, row: u32) -> usize
-    requires { first ≤ length (words_of bytes.now) / 5 }
-    ensures value { result ≡ run_of_row row (drop first (entries_of (words_of bytes.now))) }
-    ensures result_in_bounds { first + result ≤ length (words_of bytes.now) / 5 }
-{
-    let n = how_many(bytes) / 5;
-    let mut i: usize = first;
-    while i < n {
-        if word_at(bytes, i * 5) != row {
-            return i - first;
-        }
-        i += 1;
-    }
-    n - first
+    row_range(how_many(bytes) / 5, row, &|i| word_at(bytes, i * 5))
 }
 
 // Where the part of a table that holds a row's entries begins, in bytes; at the front where no entry is of that row.
 pub fn row_start(bytes: &[u8], row: u32) -> usize
     ensures { result ≡ 4 * row_start (words_of bytes.now) row }
 {
-    let first = entries_before(bytes, row);
-    let count = entries_from(bytes, first, row);
-    if count == 0 {
+    let entries = row_entries(bytes, row);
+    if entries.is_empty() {
         return 0;
     }
-    first * 20
+    entries.start * 20
 }
 
 // How many bytes the part of a table has that holds a row's entries: from the first entry of that row to the next of
@@ -56,7 +32,6 @@ pub fn row_start(bytes: &[u8], row: u32) -> usize
 pub fn row_length(bytes: &[u8], row: u32) -> usize
     ensures { result ≡ 4 * row_length (words_of bytes.now) row }
 {
-    let first = entries_before(bytes, row);
-    let count = entries_from(bytes, first, row);
-    count * 20
+    let entries = row_entries(bytes, row);
+    (entries.end - entries.start) * 20
 }

@@ -1,39 +1,32 @@
-// The search for an entry over the bytes of a table: its words, four bytes each, are read where they lie.
-ghost use Rattle.std.specs.Prelude.{◌≡◌, ◌≤◌, drop};
+// The test of an entry over the bytes of a table: its words, four bytes each, are read where they lie.
+ghost use Rattle.std.specs.Prelude.{◌≡◌, ◌/◌, ◌≤◌, ◌<◌, length};
 ghost use Rattle.limits.specs.Limits.{ROWS};
-ghost use Rattle.model.specs.Table.{entries_of};
 ghost use Rattle.model.specs.Firmware.{words_of};
-ghost use Rattle.kernel.specs.Finding.{found_of, fits_by, find_by};
+ghost use Rattle.kernel_rows.specs.Entries.{entry_at};
+ghost use Rattle.kernel.specs.Finding.{fits_by};
 
-use c_words::{entry_of, how_many, word_at};
-use kernel::{Found, RowNodes, entry_fits};
+use c_words::{entry_of, word_at};
+use kernel::{RowNodes, entry_fits};
 
-// The first entry from number `first` on that is of a node at a tick and whose column is met by what is heard. `b`
-// tells the node of each row.
-pub(crate) fn first_fitting(
+// Whether entry i of a table is of a node at a tick, and its column is met by what is heard. `b` tells the node of each
+// row. Only an entry at that tick is copied.
+pub(crate) fn bytes_fit(
     bytes: &[u8],
-    first: usize,
-    b: RowNodes,
+    i: usize,
+    b: &RowNodes,
     node: u32,
     tick: u32,
     heard: u32,
     told: u32,
-) -> Found
-    requires { b.rows ≤ ROWS }
-    ensures { result ≡ found_of (find_by (fits_by b.node b.rows node tick heard told)
-        (drop first (entries_of (words_of bytes.now))) first) }
+) -> bool
+    requires entry { i < length (words_of bytes.now) / 5 }
+    requires rows { b.now.rows ≤ ROWS }
+    ensures { result ≡ fits_by b.now.node b.now.rows node tick heard told (entry_at (words_of bytes.now) i) }
 {
-    let n = how_many(bytes) / 5;
-    let mut i = first;
-    while i < n {
-        let at = i * 5;
-        if word_at(bytes, at + 3) == tick {
-            let five = entry_of(bytes, at);
-            if entry_fits(&five, 0, &b.node, b.rows, node, tick, heard, told) {
-                return Found::Entry(i);
-            }
-        }
-        i += 1;
+    let at = i * 5;
+    if word_at(bytes, at + 3) != tick {
+        return false;
     }
-    Found::None
+    let five = entry_of(bytes, at);
+    entry_fits(&five, 0, &b.node, b.rows, node, tick, heard, told)
 }

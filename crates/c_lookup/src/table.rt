@@ -1,14 +1,15 @@
 // The kernel lookup over the bytes of a table: its words, four bytes each, are read where they lie.
-ghost use Rattle.std.specs.Prelude.{◌≡◌};
+ghost use Rattle.std.specs.Prelude.{Ok, ◌≡◌};
 ghost use Rattle.model.specs.Refusals.{nothing, plan_refusal};
 ghost use Rattle.model.specs.Firmware.{words_of};
 ghost use Rattle.model.specs.Lookup as m;
 ghost use Rattle.plan.specs.Memory.{lines};
 ghost use Rattle.kernel.specs.Finding.{found_of};
 
-use crate::search::first_fitting;
+use crate::search::bytes_fit;
 use arrays::wide;
-use kernel::{Found, row_nodes};
+use c_words::how_many;
+use kernel::{first_entry, row_nodes};
 use plan::Plan;
 
 // The kernel lookup over the bytes of a table, for a plan in which refusals 2 to 9 find nothing: the number of the
@@ -22,13 +23,17 @@ pub(crate) fn lookup_bytes(
     heard: u32,
     values: u32,
     first: usize,
-) -> Found
+) -> Option<usize>
     requires { plan_refusal (lines p) ≡ nothing }
-    ensures { result ≡ found_of (m.lookup (lines p) (words_of bytes.now) node tick heard values first) }
+    ensures { Ok result ≡ found_of (m.lookup (lines p) (words_of bytes.now) node tick heard values first) }
 {
     if p.slots <= wide(node) {
-        return Found::None;
+        return None;
     }
     let b = row_nodes(p);
-    first_fitting(bytes, first, b, node, tick, heard, values)
+    first_entry(
+        how_many(bytes) / 5,
+        first,
+        &|i| bytes_fit(bytes, i, &b, node, tick, heard, values),
+    )
 }

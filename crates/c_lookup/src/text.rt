@@ -1,24 +1,9 @@
 // The kernel lookup over a plan text and a table lent as bytes, answered as one number.
-ghost use Rattle.std.specs.Prelude.{◌≡◌};
 ghost use Rattle.model.specs.Firmware.{AnswersLookup};
-ghost use Rattle.c_lookup.specs.Lookup.{found_answer};
 
 use crate::table::lookup_bytes;
-use c_words::refused;
-use kernel::Found;
-use plan_refusals::Refusal;
+use c_words::answered;
 use text_reader::read_plan;
-
-// The number in which the lookup's answer is given: an entry's number, none as 2^64 - 1, or the refusal.
-fn found(f: Found) -> u64
-    ensures { result ≡ found_answer f }
-{
-    match f {
-        Found::Entry(i) => i as u64,
-        Found::None => 18446744073709551615,
-        Found::Refused(n) => refused(n),
-    }
-}
 
 // Looks up, for a unit's kernel, the next entry of a table given as bytes: the number of the first entry, from number
 // `first` on, of the node at the tick whose known bits are all heard, with the heard values at those bits; none as 2^64
@@ -34,13 +19,11 @@ pub fn lookup_text(
 ) -> u64
     ensures { AnswersLookup text.now table.now node tick heard values first result }
 {
-    let read = read_plan(text);
-    let refusal = read.refusal;
-    match refusal {
-        Refusal::Refused(n) => refused(n),
-        Refusal::Nothing => {
-            let p = read.plan;
-            found(lookup_bytes(p, table, node, tick, heard, values, first))
+    match read_plan(text) {
+        Ok(p) => {
+            let entry = lookup_bytes(p, table, node, tick, heard, values, first);
+            answered(Ok(entry.unwrap_or(usize::MAX)))
         }
+        Err(refusal) => answered(Err(refusal)),
     }
 }

@@ -5,15 +5,15 @@ use mathlib.Core.Path.{◌≡◌, refl, sym, ap, ◌∙◌}
 use mathlib.Core.List.{List, ◌∷◌}
 use Prim.Native.Nat.{ℕ, ◌*◌}
 use lib.ListN.{length, take}
+use Rattle.std.specs.Prelude.{Ok, Err}
+use Rattle.std.specs.Prelude as std
 use Rattle.lists.specs.Front.{front}
 use Rattle.model.specs.Plan.{Lines}
 use Rattle.model.specs.Table.{Answer, turned_down, made}
 use Rattle.planner_table.specs.declared.Made.{Made}
-use Rattle.planner_table.specs.declared.Planned.TheVariants as answer
 use Rattle.planner_table.specs.Planner.{answer_of}
 use Rattle.planner_table.proofs.Given.{turned, Stands}
 use Rattle.c_words.specs.Bytes.{bytes_of}
-use Rattle.c_plan.specs.declared.table.Put.TheVariants.{Wrote, Refused}
 use Rattle.c_plan.specs.Stored.{Stored}
 use Rattle.c_plan.specs.Filled.{put_of, totals_of, table_bytes_after, frame_bytes_after, totals_after, Filled}
 
@@ -32,20 +32,24 @@ filled_so {table = table} {frames} {totals} e q =
       total_bytes = q.total_bytes ∙ ap (λ (x : Answer). totals_after x totals) e;
     }
 
-pub refusal_put : (a : Answer) (n : ℕ) (table frames totals : List ℕ) → answer.Refused n ≡ answer_of a →
-    (Refused n ≡ put_of a) × Filled a table frames totals table frames totals
+-- a number of bytes that were written
+abbrev ok : ℕ → std.Result ℕ ℕ
+ok n = Ok n
+
+pub refusal_put : (a : Answer) (n : ℕ) (table frames totals : List ℕ) → Err n ≡ answer_of a →
+    (Err n ≡ put_of a) × Filled a table frames totals table frames totals
 unfolding put_of
 refusal_put a n table frames totals e = (rw (turned a n e), filled_so (sym (turned a n e)) (nothing_filled n table frames totals))
 
 module _ (p : Lines) (a : Answer) (m : Made) (words framewords passed words-now framewords-now passed-now : List ℕ) (s : Stands p a m words framewords passed words-now framewords-now passed-now)
     (nodes : ℕ) (each : nodes ≡ length p.slots) (table frames totals table-now frames-now totals-now : List ℕ) where
   pub made_put : Stored m words-now framewords-now (take nodes passed-now) table frames totals table-now frames-now totals-now →
-      (Wrote (4 * m.words) ≡ put_of a) × Filled a table frames totals table-now frames-now totals-now
+      (Ok (4 * m.words) ≡ put_of a) × Filled a table frames totals table-now frames-now totals-now
   unfolding put_of table_bytes_after frame_bytes_after totals_after totals_of
   made_put l =
       let w = s.was in
       let counts : take nodes passed-now ≡ w.result.passed = ap (λ (n : ℕ). take n passed-now) each ∙ s.counts_words in (
-        (λ i. Wrote (4 * w.words i)) ∙ ap put_of (sym w.is_made),
+        (ap (λ (n : ℕ). ok (4 * n)) w.words) ∙ ap put_of (sym w.is_made),
         filled_so {a = made w.result} (sym w.is_made)
             (record {
               table_bytes = l.table_bytes ∙ ap (λ (ws : List ℕ). front (bytes_of ws) table) s.table_words;

@@ -1,17 +1,15 @@
 -- A plan planned into lent bytes: the answer, and what the bytes lent for the table, the frame list and the totals hold
 -- afterwards. A word is four bytes, the lowest first.
 -- Assumes nothing.
-use Rattle.std.specs.Prelude.{ℕ, ◌*◌, ◌≡◌, List, ◌∷◌, length, take}
+use Rattle.std.specs.Prelude.{Result as AnswerOr, Ok, Err, ℕ, ◌*◌, ◌≡◌, List, ◌∷◌, length, take}
 use Rattle.lists.specs.Front.{front}
 use Rattle.model.specs.Table.{Answer, turned_down, made, Result, entry_words, frame_words}
 use Rattle.c_words.specs.Bytes.{bytes_of}
-use Rattle.c_plan.specs.declared.table.Put.{Put}
-use Rattle.c_plan.specs.declared.table.Put.TheVariants.{Wrote, Refused}
 
--- the answer in memory: how many bytes the table has, or the refusal
-unfoldable pub put_of : Answer → Put
-put_of (turned_down n) = Refused n
-put_of (made r) = Wrote (4 * length (entry_words r.entries))
+-- the answer in memory: how many bytes the table has, or the number of the refusal
+unfoldable pub put_of : Answer → AnswerOr ℕ ℕ
+put_of (turned_down n) = Err n
+put_of (made r) = Ok (4 * length (entry_words r.entries))
 
 -- the totals: the words of the table and of the frame list, the worst delay, and the pass-over count of each node, in
 -- node order

@@ -5,4 +5,4 @@
 mod stored;
 mod table;
 
-pub use table::{Put, put_plan};
+pub use table::put_plan;

@@ -40,8 +40,8 @@ pub(crate) fn put_planned_words<'a>(
     ensures { Stored m words.now framewords.now passed.now table.old
         frames.old totals.old table.new frames.new totals.new }
 {
-    put_words(words, m.words, table);
-    put_words(framewords, m.framewords, frames);
+    put_words(&words[..m.words], table);
+    put_words(&framewords[..m.framewords], frames);
     let mut numbers = [0u32; TOTALS];
     store_totals(m, passed, &mut numbers);
     let count = 3 + passed.len();

@@ -4,41 +4,32 @@ use mathlib.Core.Path.{◌≡◌, refl, ap, ◌∙◌}
 use mathlib.Core.List.{List}
 use Prim.Native.Nat.{ℕ, ◌-◌}
 use lib.ListN.{length}
+use Rattle.std.specs.Prelude.{Result}
+use Rattle.model.specs.Plan.{Lines}
 use Rattle.model.specs.Text.{reads, not_read, AnswersText, wrote, not_written, write_plan, bytes_after}
 use Rattle.model.specs.Text as m
-use Rattle.c_words.specs.Numbers.{written_number}
-use Rattle.plan.specs.Memory.{lines}
-use Rattle.plan_refusals.specs.declared.sentences.Refusal.TheVariants.{Nothing, Refused}
-use Rattle.text_reader.specs.Answer.{reading_of}
-use Rattle.text_reader.specs.declared.reader.Read.{Read}
-use Rattle.text_reader.proofs.ReadCases.{told_refused, told_read}
-use Rattle.text_writer.specs.Answer.{answer_of}
-use Rattle.text_writer.specs.declared.writer.Written.{Written}
-use Rattle.c_text.specs.Copy.{copy, written_answer, Copies}
+use Rattle.text_lines.specs.Answer.{answer_of}
+use Rattle.c_words.specs.Numbers.{answer_number, written_number}
+use Rattle.c_text.specs.Copy.{copy, Copies}
 
-module _ (text before : List ℕ) (r : Read) (told : AnswersText text (reading_of r)) where
-  pub refused_copies : (n answer : ℕ) → r.refusal ≡ Refused n → answer ≡ 18446744073709551615 - n → Copies text before before answer
+-- the number answered is that of what was written
+pub same_number : (w : m.Written) → answer_number (answer_of w) ≡ written_number w
+unfolding written_number
+same_number (wrote bytes) = refl
+same_number (not_written n) = refl
+
+module _ (text before : List ℕ) where
+  pub refused_copies : (n answer : ℕ) → AnswersText text (not_read n) → answer ≡ 18446744073709551615 - n → Copies text before before answer
   unfolding copy written_number bytes_after
-  refused_copies n answer e q =
-      record {
-        reading = not_read n;
-        of_text = told_refused text r told n e;
-        number = q;
-        bytes = refl;
-      }
+  refused_copies n answer told q = record { reading = not_read n; of_text = told; number = q; bytes = refl }
 
-  same_number : (w : m.Written) → written_answer (answer_of w) ≡ written_number w
-  unfolding written_number
-  same_number (wrote bytes) = refl
-  same_number (not_written n) = refl
-
-  pub read_copies : (after : List ℕ) (w : Written) (answer : ℕ) → r.refusal ≡ Nothing → w ≡ answer_of (write_plan (lines r.plan) (length before)) →
-      after ≡ bytes_after (write_plan (lines r.plan) (length before)) before → answer ≡ written_answer w → Copies text before after answer
+  pub read_copies : (p : Lines) (after : List ℕ) (r : Result ℕ ℕ) (answer : ℕ) → AnswersText text (reads p) → r ≡ answer_of (write_plan p (length before)) →
+      after ≡ bytes_after (write_plan p (length before)) before → answer ≡ answer_number r → Copies text before after answer
   unfolding copy
-  read_copies after w answer e q b n =
+  read_copies p after r answer told q b n =
       record {
-        reading = reads (lines r.plan);
-        of_text = told_read text r told e;
-        number = n ∙ ap written_answer q ∙ same_number (write_plan (lines r.plan) (length before));
+        reading = reads p;
+        of_text = told;
+        number = n ∙ ap answer_number q ∙ same_number (write_plan p (length before));
         bytes = b;
       }

@@ -1,4 +1,2 @@
 -- Laws of a text that is read and written again: Copying (the number answered, and the lent bytes).
 pub mod Copying
--- Laws of a listing's number: NumberedListing (that of what was written).
-pub mod NumberedListing

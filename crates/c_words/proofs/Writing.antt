@@ -1,13 +1,16 @@
 -- The bytes of words: how many there are, that each is below 256, the one at a place, and stores of one word after
 -- another.
 -- Assumes nothing.
-use mathlib.Core.Path.{◌≡◌, refl, sym, ap, ◌∙◌}
-use mathlib.Core.List.{List, [], ◌∷◌, ◌++◌, append-nil}
-use Prim.Native.Nat.{ℕ, zero, suc, ◌+◌, ◌*◌, ◌/◌, ◌%◌, ◌<◌, min}
+use mathlib.Core.Path.{◌≡◌, refl, sym, ap, ap₂, ◌∙◌}
+use mathlib.Core.List.{List, [], ◌∷◌, ◌++◌, append-nil, append_assoc}
+use Prim.Native.Nat.{ℕ, zero, suc, ◌+◌, ◌*◌, ◌/◌, ◌%◌, ◌<◌, ◌≤◌, min}
 use native.Mathlib.Numerals.{add-one}
 use native.Mathlib.Omega.{arith}
-use lib.ListN.{length, get_or, set, take}
+use lib.ListN.{length, get_or, set, take, drop}
 use lib.Seq.{sets, take-suc, take-nil, length-take-le}
+use borrow.Rule.Slice.PartMut.{put_mid}
+use Rattle.std.proofs.lemmas.List.{drop-drop}
+use Rattle.std.proofs.lemmas.List.Edits.{sets-eq}
 use Rattle.lists.proofs.Keep.{each_append}
 use Rattle.lists.proofs.Stores.{sets_append}
 use Rattle.c_words.specs.Bytes.{word_bytes, bytes_of}
@@ -48,15 +51,15 @@ bytes_next words i l =
     rw (add-one, take-suc words i 0 l) (each_append word_bytes (take i words) (get_or words i 0 ∷ []))
     ∙ ap (λ (r : List ℕ). bytes_of (take i words) ++ r) (append-nil (word_bytes (get_or words i 0)))
 
--- four stores, one for each byte of a word
-pub store_word : (lent : List ℕ) (at w : ℕ)
-    → set (set (set (set lent at (w % 256)) (at + 1) (w / 256 % 256)) (at + 2) (w / 65536 % 256)) (at + 3) (w / 16777216 % 256) ≡ sets lent at (word_bytes w)
+-- a part of lent bytes, after the four bytes of a word are copied over it
+pub store_word : (lent : List ℕ) (at k w : ℕ) (four : List ℕ) → four ≡ word_bytes w → k ≡ 4 → at + 4 ≤ length lent → put_mid at k lent four ≡ sets lent at (word_bytes w)
 unfolding word_bytes
-store_word lent at w =
-    let p : at + 1 ≡ suc at = omega arith in
-    let q : at + 2 ≡ suc (suc at) = omega arith in
-    let r : at + 3 ≡ suc (suc (suc at)) = omega arith in
-    rw (p, q, r)
+store_word lent at k w four e n l =
+    let past : at + 4 ≡ at + length (word_bytes w) = omega arith in
+    ap₂ (λ (m : ℕ) (bytes : List ℕ). put_mid at m lent bytes) n e
+    ∙ ap (λ (rest : List ℕ). take at lent ++ (word_bytes w ++ rest)) (drop-drop 4 at lent ∙ ap (λ (m : ℕ). drop m lent) past)
+    ∙ sym (append_assoc (take at lent) (word_bytes w) (drop (at + length (word_bytes w)) lent))
+    ∙ sym (sets-eq (word_bytes w) lent at (omega arith))
 
 -- one store more: after the first i words are stored, the next is stored from i * 4 on
 pub store_next : (words lent : List ℕ) (i : ℕ) → i < length words

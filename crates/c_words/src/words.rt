@@ -6,20 +6,6 @@ ghost use Rattle.model.specs.Firmware.{words_of};
 
 use limits::TABLEWORDS;
 
-// A byte as a number of 32 bits.
-fn wide(byte: u8) -> u32
-    ensures { (result ≡ byte) × (result < 256) }
-{
-    byte as u32
-}
-
-// The word that four bytes stand for, the lowest first.
-fn word_of(a: u8, b: u8, c: u8, d: u8) -> u32
-    ensures { result ≡ a + 256 * b + 65536 * c + 16777216 * d }
-{
-    wide(a) + wide(b) * 256 + wide(c) * 65536 + wide(d) * 16777216
-}
-
 // How many whole words the bytes hold; stray last bytes are not counted.
 pub fn how_many(bytes: &[u8]) -> usize
     ensures { result ≡ length (words_of bytes.now) }
@@ -33,7 +19,7 @@ pub fn word_at(bytes: &[u8], i: usize) -> u32
     ensures { result ≡ get_or (words_of bytes.now) i 0 }
 {
     let at = i * 4;
-    word_of(bytes[at], bytes[at + 1], bytes[at + 2], bytes[at + 3])
+    u32::from_le_bytes([bytes[at], bytes[at + 1], bytes[at + 2], bytes[at + 3]])
 }
 
 // Reads words from place `from` on, as many as are lent to read them into.
@@ -41,11 +27,9 @@ pub fn read_words<'a>(bytes: &'a [u8], from: usize, out: &mut [u32])
     requires { from + length out.old ≤ length (words_of bytes.now) }
     ensures { out.new ≡ take (length out.old) (drop from (words_of bytes.now)) }
 {
-    let mut i: usize = 0;
-    while i < out.len() {
+    for i in 0..out.len() {
         let at = from + i;
         out[i] = word_at(bytes, at);
-        i += 1;
     }
 }
 

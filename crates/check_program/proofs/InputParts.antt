@@ -8,14 +8,15 @@ use lib.ListN.{length, take, drop, length-drop, drop_of_length-le}
 use lib.Seq.{take_all}
 use Rattle.model.specs.ListingText.{plan_part, listing_part}
 use Rattle.text_reader.specs.Parts.{Parted}
-use Rattle.checker_table.specs.declared.verdict.Checked.{Checked}
+use Rattle.std.specs.Prelude.{Result}
+use Rattle.refusals.specs.declared.Refusal.{Refusal}
 use Rattle.check_program.specs.Answer.{Checks}
 
 -- a part of a slice up to its end
 to_end : (input : List ℕ) (from : ℕ) → take (length input - from) (drop from input) ≡ drop from input
 to_end input from = take_all (length input - from) (drop from input) (omega (arith, length-drop from input))
 
-module _ {input : List ℕ} {at : ℕ} (parts : Parted input at) {r : Checked} where
+module _ {input : List ℕ} {at : ℕ} (parts : Parted input at) {r : Result (Unit {0}) Refusal} where
   -- an empty line was found
   pub both_parts : Checks (take at input) (take (length input - (at + 1)) (drop (at + 1) input)) r → Checks (plan_part input) (listing_part input) r
   both_parts c =

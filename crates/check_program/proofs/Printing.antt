@@ -9,7 +9,11 @@ use lib.ListN.{length, drop, length-append}
 use Rattle.limits.specs.Limits.{VERDICT}
 use Rattle.lists.specs.Front.{front}
 use Rattle.lists.proofs.Stores.{sets_front}
-use Rattle.model.specs.Refusals.{Refusal, nothing, refused}
+use Rattle.std.specs.Prelude.{Result, Ok, Err}
+use Rattle.model.specs.Refusals.{nothing, refused}
+use Rattle.model.specs.Refusals as model
+use Rattle.refusals.specs.declared.Refusal.{Refusal}
+use Rattle.refusals.specs.Numbers.{number_of, numbered}
 use Rattle.model.specs.Listing.{refused_line}
 use Rattle.model.specs.ListingText.{check_prints}
 use Rattle.text_grammar.proofs.Numbers.{decimal_length}
@@ -31,10 +35,12 @@ pub stored : {l m : List ℕ} {end : ℕ} {bytes : List ℕ} → Put l m 0 end b
 stored {l} {bytes = bytes} p h = (p.count ∙ zero-add (length bytes), p.holds ∙ sets_front bytes l h)
 
 -- an answer says the refusal that it was given for
-pub says : (x : Refusal) → refusal_of (answer_of x) ≡ x
+pub says : (r : Result (Unit {0}) Refusal) (x : model.Refusal) → numbered r ≡ answer_of x → refusal_of r ≡ x
 unfolding answer_of
-says nothing = refl
-says (refused n) = refl
+says (Ok y) nothing e = refl
+says (Ok y) (refused n) e = cc
+says (Err r) nothing e = cc
+says (Err r) (refused n) e = let q : number_of r ≡ n = cc in ap refused q
 
 -- what was written lies within the lent bytes
 pub count_within : {input before after : List ℕ} {count : ℕ} → Prints input before after count → count ≤ length after

@@ -5,14 +5,14 @@ ghost use Rattle.model.specs.ListingText.{plan_part, listing_part, check_prints}
 ghost use Rattle.check_program.specs.Answer.{Checks, refusal_of, Prints};
 
 use crate::texts::check_texts;
-use checker_table::Checked;
 use limits::VERDICT;
 use listing::put_refusal;
 use listing_bytes::put_word;
+use refusals::Refusal;
 use text_reader::plan_length;
 
 // Checks an input: a plan up to the first empty line, and behind it a listing, which is empty without an empty line.
-fn check_input(input: &[u8]) -> Checked
+fn check_input(input: &[u8]) -> Result<(), Refusal>
     ensures { Checks (plan_part input.now) (listing_part input.now) result }
 {
     let at = plan_length(input);
@@ -23,13 +23,13 @@ fn check_input(input: &[u8]) -> Checked
 }
 
 // Writes the line of an answer to the front of the lent bytes, which suffice for any: how many bytes were written.
-fn print_answer(c: Checked, out: &mut [u8; VERDICT]) -> usize
-    ensures count { result ≡ length (check_prints (refusal_of c)) }
-    ensures bytes { out.new ≡ front (check_prints (refusal_of c)) out.old }
+fn print_answer(answer: Result<(), Refusal>, out: &mut [u8; VERDICT]) -> usize
+    ensures count { result ≡ length (check_prints (refusal_of answer)) }
+    ensures bytes { out.new ≡ front (check_prints (refusal_of answer)) out.old }
 {
-    match c {
-        Checked::Accepted => put_word(out, 0, b"(accepted)\n"),
-        Checked::Refused(n) => put_refusal(out, n),
+    match answer {
+        Ok(()) => put_word(out, 0, b"(accepted)\n"),
+        Err(refusal) => put_refusal(out, refusal.number()),
     }
 }
 
@@ -38,6 +38,5 @@ fn print_answer(c: Checked, out: &mut [u8; VERDICT]) -> usize
 pub fn print_check(input: &[u8], out: &mut [u8; VERDICT]) -> usize
     ensures { Prints input.now out.old out.new result }
 {
-    let checked = check_input(input);
-    print_answer(checked, out)
+    print_answer(check_input(input), out)
 }

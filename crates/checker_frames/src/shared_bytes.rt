@@ -37,12 +37,10 @@ fn shares(index: &Index, rows: &Rows, i: usize) -> bool
     if passes(index, rows, i) {
         return true;
     }
-    let mut j = processes_of(index);
-    while j < i {
+    for j in processes_of(index)..i {
         if lie(index, rows, i, j) {
             return true;
         }
-        j += 1;
     }
     false
 }
@@ -55,12 +53,10 @@ pub fn share_byte(index: &Index, rows: &Rows) -> bool
     ensures { result ≡ some_share (laid index.now) (rows_of rows.now) }
 {
     let end = rows_of(index);
-    let mut i = processes_of(index);
-    while i < end {
+    for i in processes_of(index)..end {
         if shares(index, rows, i) {
             return true;
         }
-        i += 1;
     }
     false
 }

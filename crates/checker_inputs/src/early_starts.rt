@@ -57,12 +57,10 @@ pub fn too_early(index: &Index, rows: &Rows) -> bool
     ensures { result ≡ some_early (laid index.now) (rows_of rows.now) }
 {
     let end = rows_of(index);
-    let mut r: usize = 0;
-    while r < end {
+    for r in 0..end {
         if row_early(index, rows, r) {
             return true;
         }
-        r += 1;
     }
     false
 }

@@ -33,12 +33,10 @@ pub(crate) fn misses_some(index: &Index, rows: &Rows, a: usize, b: usize, u: u32
     ensures { result ≡ any (edge_misses (laid index.now) (rows_of rows.now) u)
         (edges_at (laid index.now) a b) }
 {
-    let mut j = a;
-    while j < b {
+    for j in a..b {
         if misses(index, rows, into_of(index, j), u) {
             return true;
         }
-        j += 1;
     }
     false
 }

@@ -4,6 +4,8 @@ use Prim.Native.Nat.{ℕ, ◌*◌, ◌%◌, ◌≤◌}
 use mathlib.Core.Path.{◌≡◌, ap, sym, ◌∙◌}
 use mathlib.Core.List.{List}
 use native.Mathlib.Omega.{arith}
+use Rattle.std.specs.Prelude.{Ok, Err}
+use Rattle.std.specs.Prelude as std
 use lib.ListN.{length, take}
 use lib.Seq.{length-take-le}
 use Rattle.limits.specs.Limits.{NODES, PRINTEDWORDS, PRINTEDFRAMEWORDS}
@@ -21,10 +23,8 @@ use Rattle.plan.proofs.Counted.{counted_length}
 use Rattle.listing_reader.specs.Answer.{Counted, SomePlan, ReadsListing}
 use Rattle.listing_reader.specs.Answer as reader
 use Rattle.listing_reader.specs.declared.reader.Stated.{Stated}
-use Rattle.listing_reader.specs.declared.reader.ListingRead.{ListingRead}
-use Rattle.listing_reader.specs.declared.reader.ListingRead.TheVariants as Answers
-use Rattle.checker_table.specs.declared.verdict.Checked.{Checked}
-use Rattle.checker_table.specs.declared.verdict.Checked.TheVariants as checked
+use Rattle.refusals.specs.declared.Refusal.{Refusal}
+use Rattle.refusals.specs.Numbers.{number_of, numbered}
 use Rattle.checker_table.specs.Verdict.{answer_of}
 use Rattle.checker_listing.specs.Stated.{stated_in}
 use Rattle.checker_listing.specs.Listing.{Checks}
@@ -72,11 +72,11 @@ record Tells (p : Lines) (bytes : List ℕ) (s : Stated) (table frames passed ta
   in_passed : passed-now ≡ front result.passed passed
 
 module _ (p : Lines) (bytes table frames passed table-now frames-now passed-now : List ℕ) where
-  told : (s : Stated) {z : ListingRead} → z ≡ Answers.Stated s → ReadsListing p bytes z table frames passed table-now frames-now passed-now → Tells p bytes s table frames passed table-now frames-now passed-now
+  told : (s : Stated) → ReadsListing p bytes (Ok s) table frames passed table-now frames-now passed-now → Tells p bytes s table frames passed table-now frames-now passed-now
   unfolding reader.answer_of listed_words listed_frames listed_counts
-  told s q h = at h.reading h.of_text (sym q ∙ h.answer) h.words h.frame_words h.counts
+  told s h = at h.reading h.of_text h.answer h.words h.frame_words h.counts
     where
-      at : (l : Listed) → AnswersListing p bytes l → Answers.Stated s ≡ reader.answer_of l → table-now ≡ listed_words l table → frames-now ≡ listed_frames l frames →
+      at : (l : Listed) → AnswersListing p bytes l → Ok s ≡ reader.answer_of l → table-now ≡ listed_words l table → frames-now ≡ listed_frames l frames →
           passed-now ≡ listed_counts l passed →
           Tells p bytes s table frames passed table-now frames-now passed-now
       at (not_listed n) a e t f g = absurd (let z : ◌≡◌ {A = ℕ} 0 1 = cc in omega arith)
@@ -84,10 +84,10 @@ module _ (p : Lines) (bytes table frames passed table-now frames-now passed-now 
           record { result = r; states = m; words = cc; framewords = cc; delay = cc; in_table = t; in_frames = f; in_passed = g }
 
   -- whole entries and frames, no more than there is room for
-  pub whole_words : (s : Stated) {z : ListingRead} → z ≡ Answers.Stated s → ReadsListing p bytes z table frames passed table-now frames-now passed-now → PRINTEDWORDS ≤ length table → PRINTEDFRAMEWORDS ≤ length frames →
+  pub whole_words : (s : Stated) → ReadsListing p bytes (Ok s) table frames passed table-now frames-now passed-now → PRINTEDWORDS ≤ length table → PRINTEDFRAMEWORDS ≤ length frames →
       WholeWords s (length table-now) (length frames-now)
-  whole_words s q h t f =
-      let k = told s q h in
+  whole_words s h t f =
+      let k = told s h in
       let n = entry_words_count k.result.entries in
       let m = frame_words_count k.result.frames in
       let a : s.words ≡ 5 * length k.result.entries = k.words ∙ n in
@@ -103,10 +103,10 @@ module _ (p : Lines) (bytes table frames passed table-now frames-now passed-now 
       }
 
   -- the counts that were lent are as many as before
-  pub counts_long : plan_refusal p ≡ nothing → (s : Stated) {z : ListingRead} → z ≡ Answers.Stated s → ReadsListing p bytes z table frames passed table-now frames-now passed-now →
+  pub counts_long : plan_refusal p ≡ nothing → (s : Stated) → ReadsListing p bytes (Ok s) table frames passed table-now frames-now passed-now →
       length passed ≡ NODES → length passed-now ≡ NODES
-  counts_long fine s q h l =
-      let k = told s q h in
+  counts_long fine s h l =
+      let k = told s h in
       ap length k.in_passed ∙ front_length k.result.passed passed (omega (arith, k.states.count_for_each, (good p fine).few_slots, l)) ∙ l
 
   -- what was checked is what the text states
@@ -123,21 +123,21 @@ module _ (p : Lines) (bytes table frames passed table-now frames-now passed-now 
       λ i. record { delay = k.delay i; passed = ps i; entries = es i; frames = fs i }
 
   module _ (fine : plan_refusal p ≡ nothing) where
-    pub refused_checks : (n : ℕ) {z : ListingRead} → z ≡ Answers.Refused n → ReadsListing p bytes z table frames passed table-now frames-now passed-now → Checks p bytes (checked.Refused n)
+    pub refused_checks : (r : Refusal) → ReadsListing p bytes (Err r) table frames passed table-now frames-now passed-now → Checks p bytes (Err r)
     unfolding reader.answer_of listed_refusal answer_of
-    refused_checks n q h = at h.reading h.of_text (sym q ∙ h.answer)
+    refused_checks r h = at h.reading h.of_text h.answer
       where
-        at : (l : Listed) → AnswersListing p bytes l → Answers.Refused n ≡ reader.answer_of l → Checks p bytes (checked.Refused n)
+        at : (l : Listed) → AnswersListing p bytes l → Err (number_of r) ≡ reader.answer_of l → Checks p bytes (Err r)
         at (not_listed m) a e =
-            let q : n ≡ m = cc in
-            record { refusal = listed_refusal p (not_listed m); of_listing = by_listing (not_listed m) fine a; answer = ap checked.Refused q }
-        at (listed r) a e = absurd (let z : ◌≡◌ {A = ℕ} 0 1 = cc in omega arith)
+            let q : number_of r ≡ m = cc in
+            record { refusal = listed_refusal p (not_listed m); of_listing = by_listing (not_listed m) fine a; answer = λ i. Err (q i) }
+        at (listed s) a e = absurd (let z : ◌≡◌ {A = ℕ} 0 1 = cc in omega arith)
 
-    pub stated_checks : (slots : ℕ) → slots ≡ length p.slots → (s : Stated) (r : Checked) {z : ListingRead} → z ≡ Answers.Stated s → ReadsListing p bytes z table frames passed table-now frames-now passed-now →
-        r ≡ answer_of (stated_refusal p (stated_in (take s.words table-now) (take s.framewords frames-now) s.delay (take slots passed-now))) → Checks p bytes r
+    pub stated_checks : (slots : ℕ) → slots ≡ length p.slots → (s : Stated) (r : std.Result (Unit {0}) Refusal) → ReadsListing p bytes (Ok s) table frames passed table-now frames-now passed-now →
+        numbered r ≡ answer_of (stated_refusal p (stated_in (take s.words table-now) (take s.framewords frames-now) s.delay (take slots passed-now))) → Checks p bytes r
     unfolding listed_refusal
-    stated_checks slots n s r q h e =
-        let k = told s q h in
+    stated_checks slots n s r h e =
+        let k = told s h in
         record {
           refusal = listed_refusal p (listed k.result);
           of_listing = by_listing (listed k.result) fine (a_listing k.result k.states);

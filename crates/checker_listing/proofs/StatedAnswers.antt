@@ -18,7 +18,7 @@ use Rattle.model.specs.Checking.{table_refusal, check, Sound}
 use Rattle.model.specs.ListingText.{other_frames, other_counts, stated_refusal}
 use Rattle.laws.proofs.Good.{good, or_nothing}
 use Rattle.laws.proofs.Words.{words_back, frame_words_back, counts_each}
-use Rattle.checker_table.specs.declared.verdict.Checked.TheVariants.{Accepted, Refused}
+use Rattle.std.specs.Prelude.{Ok, Err}
 use Rattle.checker_table.specs.Verdict.{answer_of}
 use Rattle.checker_listing.specs.Filling.{frames_given}
 use Rattle.checker_listing.specs.Stated.{stated_in}
@@ -58,7 +58,7 @@ module _ (p : Lines) (table ws : List ℕ) (delay : ℕ) (passed : List ℕ) (fi
   found a b c = tests ∙ (λ i. or_else (a i) (sentence 22 (not (b i) || not (c i)) nothing))
 
   -- a refusal of the table comes first
-  pub answer_table : (n : ℕ) → table_refusal p table delay ≡ refused n → Refused n ≡ answer_of (stated_refusal p (stated_in table ws delay passed))
+  pub answer_table : (n : ℕ) → table_refusal p table delay ≡ refused n → Err n ≡ answer_of (stated_refusal p (stated_in table ws delay passed))
   unfolding answer_of or_else
   answer_table n e = sym (ap answer_of (found e refl refl))
 
@@ -68,18 +68,18 @@ module _ (p : Lines) (table ws : List ℕ) (delay : ℕ) (passed : List ℕ) (fi
     unfolding check
     no_refusal = (or_nothing (plan_refusal p) (table_refusal p table delay) sound).1
 
-    pub answer_frames : same_numbers ws (frames_given p table) ≡ false → Refused 22 ≡ answer_of (stated_refusal p (stated_in table ws delay passed))
+    pub answer_frames : same_numbers ws (frames_given p table) ≡ false → Err 22 ≡ answer_of (stated_refusal p (stated_in table ws delay passed))
     unfolding answer_of or_else
     answer_frames e = sym (ap answer_of (found no_refusal e refl))
 
     -- 22 by the counts
     pub answer_counts : same_numbers ws (frames_given p table) ≡ true → same_numbers passed (result p).passed ≡ false →
-        Refused 22 ≡ answer_of (stated_refusal p (stated_in table ws delay passed))
+        Err 22 ≡ answer_of (stated_refusal p (stated_in table ws delay passed))
     unfolding answer_of or_else
     answer_counts e d = sym (ap answer_of (found no_refusal e d))
 
     -- nothing by both tests
     pub answer_accepted : same_numbers ws (frames_given p table) ≡ true → same_numbers passed (result p).passed ≡ true →
-        Accepted ≡ answer_of (stated_refusal p (stated_in table ws delay passed))
+        Ok tt ≡ answer_of (stated_refusal p (stated_in table ws delay passed))
     unfolding answer_of or_else
     answer_accepted e d = sym (ap answer_of (found no_refusal e d))

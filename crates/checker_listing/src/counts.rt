@@ -10,12 +10,5 @@ pub(crate) fn same_counts(a: &[u32; NODES], b: &[u32; NODES], n: usize) -> bool
     requires { (n ≤ NODES) × (length a.now ≡ NODES) × (length b.now ≡ NODES) }
     ensures { result ≡ same_numbers (take n a.now) (take n b.now) }
 {
-    let mut i: usize = 0;
-    while i < n {
-        if a[i] != b[i] {
-            return false;
-        }
-        i += 1;
-    }
-    true
+    a[..n] == b[..n]
 }

@@ -9,12 +9,10 @@ pub(crate) fn ticks_ascend(frames: &[u32]) -> bool
     ensures { Tells result (Ascends frames.now) }
 {
     let count = frames.len() / 3;
-    let mut k: usize = 1;
-    while k < count {
+    for k in 1..count {
         if frames[3 * k] <= frames[3 * k - 3] {
             return false;
         }
-        k += 1;
     }
     true
 }
@@ -26,6 +24,7 @@ pub(crate) fn find_frame(frames: &[u32], tick: u32) -> usize
     requires fact_2 { Ascends frames.now }
     ensures { Before frames.now tick result }
 {
+    // Halved by hand: std's `partition_point` searches the elements of a slice, and a frame is three words of one.
     let mut low: usize = 0;
     let mut high = frames.len() / 3;
     while low < high {

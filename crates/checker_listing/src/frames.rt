@@ -75,12 +75,10 @@ fn all_filled(filled: &[u8; PRINTEDFRAMES], count: usize) -> bool
     requires { count ≤ PRINTEDFRAMES }
     ensures { Tells result (AllMarked filled.now count) }
 {
-    let mut k: usize = 0;
-    while k < count {
+    for k in 0..count {
         if filled[k] != 1 {
             return false;
         }
-        k += 1;
     }
     true
 }
@@ -94,8 +92,7 @@ fn items_fit(index: &Index, table: &[u32], frames: &[u32]) -> bool
     let mut filled = [0u8; PRINTEDFRAMES];
     let processes = processes_of(index);
     let count = table.len() / 5;
-    let mut i: usize = 0;
-    while i < count {
+    for i in 0..count {
         let at = 5 * i;
         if processes <= wide(table[at]) {
             let item = item_frame(table, at, index);
@@ -103,7 +100,6 @@ fn items_fit(index: &Index, table: &[u32], frames: &[u32]) -> bool
                 return false;
             }
         }
-        i += 1;
     }
     all_filled(&filled, frames.len() / 3)
 }

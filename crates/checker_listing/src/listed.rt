@@ -6,20 +6,20 @@ ghost use Rattle.plan.specs.Memory.{lines};
 ghost use Rattle.checker_listing.specs.Listing.{Checks};
 
 use crate::stated::check_stated;
-use arrays::no_counts;
-use checker_table::Checked;
-use limits::{PRINTEDFRAMEWORDS, PRINTEDWORDS};
-use listing_reader::{ListingRead, read_listing};
+use arrays::zeros;
+use limits::{NODES, PRINTEDFRAMEWORDS, PRINTEDWORDS};
+use listing_reader::read_listing;
 use plan::Plan;
+use refusals::Refusal;
 
 // Reads a listing text into lent words, and checks what it states.
-fn check_read(p: Plan, listing: &[u8], table: &mut [u32], frames: &mut [u32]) -> Checked
+fn check_read(p: Plan, listing: &[u8], table: &mut [u32], frames: &mut [u32]) -> Result<(), Refusal>
     requires fact_1 { plan_refusal (lines p) ≡ nothing }
     requires fact_2 { (PRINTEDWORDS ≤ length table.old) × (PRINTEDFRAMEWORDS ≤ length frames.old) }
     ensures { Checks (lines p) listing.now result }
 {
-    let mut passed = no_counts();
-    let read = read_listing(
+    let mut passed = zeros::<NODES>();
+    let s = read_listing(
         listing,
         p.slots,
         p.processes,
@@ -28,21 +28,16 @@ fn check_read(p: Plan, listing: &[u8], table: &mut [u32], frames: &mut [u32]) ->
         table,
         frames,
         &mut passed,
-    );
-    match read {
-        ListingRead::Refused(n) => Checked::Refused(n),
-        ListingRead::Stated(s) => {
-            let words = s.words;
-            let framewords = s.framewords;
-            check_stated(p, &table[..words], &frames[..framewords], &passed, s.delay)
-        }
-    }
+    )?;
+    let words = s.words;
+    let framewords = s.framewords;
+    check_stated(p, &table[..words], &frames[..framewords], &passed, s.delay)
 }
 
 // Checks a listing text of any bytes for a plan in which refusals 2 to 9 find nothing: accepted, or the first refusal
 // that applies. The lent words are of ones, which are stored by fewer instructions than zeros are
 // (docs/PERFORMANCE.md).
-pub fn check_listed(p: Plan, listing: &[u8]) -> Checked
+pub fn check_listed(p: Plan, listing: &[u8]) -> Result<(), Refusal>
     requires { plan_refusal (lines p) ≡ nothing }
     ensures { Checks (lines p) listing.now result }
 {

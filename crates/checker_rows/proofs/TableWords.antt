@@ -68,8 +68,8 @@ module _ (words : List ℕ) where
   pub rowed_here : (at : ℕ) → at + 5 ≤ length words → Rowed (drop at words) → (get_or words at 0 < 198) × (get_or words (at + 3) 0 ≤ 999999999)
   rowed_here at l h = h (entry_from words at) (rw (entries_next at l) (here refl))
 
-  pub rowed_next : (at : ℕ) → at + 5 ≤ length words → Rowed (drop at words) → Rowed (drop (at + 5) words)
-  rowed_next at l h e m = h e (rw (entries_next at l) (there m))
+  pub rowed_next : (at : ℕ) {next : ℕ} → at + 5 ≤ length words → at + 5 ≡ next → Rowed (drop at words) → Rowed (drop next words)
+  rowed_next at l n h e m = h e (rw (entries_next at l, n) (there m))
 
   -- what the entries from a place on leave in an array is what all of them leave
   module _ (f : Entry → ℕ → ℕ) (c : ℕ) where
@@ -77,11 +77,12 @@ module _ (words : List ℕ) where
     unfolding by_row
     left_start q = ap (after_all f c (entries_of words)) q
 
-    pub left_next : (at : ℕ) (xs : List ℕ) {ys : List ℕ} → at + 5 ≤ length words → ys ≡ after f c (entry_from words at) xs →
-        after_all f c (entries_of (drop at words)) xs ≡ by_row f c words → after_all f c (entries_of (drop (at + 5) words)) ys ≡ by_row f c words
+    pub left_next : (at : ℕ) (xs : List ℕ) {ys : List ℕ} {next : ℕ} → at + 5 ≤ length words → at + 5 ≡ next → ys ≡ after f c (entry_from words at) xs →
+        after_all f c (entries_of (drop at words)) xs ≡ by_row f c words → after_all f c (entries_of (drop next words)) ys ≡ by_row f c words
     unfolding after_all
-    left_next at xs {ys} l q h =
-        ap (after_all f c (entries_of (drop (at + 5) words))) q ∙ sym (ap (λ (es : List Entry). after_all f c es xs) (entries_next at l)) ∙ h
+    left_next at xs {ys} l n q h =
+        ap (λ (k : ℕ). after_all f c (entries_of (drop k words)) ys) (sym n)
+        ∙ ap (after_all f c (entries_of (drop (at + 5) words))) q ∙ sym (ap (λ (es : List Entry). after_all f c es xs) (entries_next at l)) ∙ h
 
     pub left_end : (at : ℕ) {xs : List ℕ} → length words ≤ at → after_all f c (entries_of (drop at words)) xs ≡ by_row f c words → xs ≡ by_row f c words
     unfolding after_all

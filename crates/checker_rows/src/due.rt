@@ -6,7 +6,7 @@ ghost use Rattle.log_rows.specs.Rows.{rows_of, with_comes};
 ghost use Rattle.checker_rows.specs.RowOrder.{RowOrder};
 ghost use Rattle.checker_rows.specs.Due.{edge_due_in, row_due_in, due_in, due_of, with_active};
 
-use arrays::no_rows;
+use arrays::zeros;
 use limits::ROWS;
 use log_queries::may_run;
 use log_rows::{COMES_AT, Rows, run_of, unmet_of};
@@ -48,12 +48,10 @@ fn rows_due(index: &Index, rows: &Rows) -> [u32; ROWS]
     requires { Bounded (laid index.now) × RowOrder (laid index.now) }
     ensures { result ≡ due_in (laid index.now) (rows_of rows.now) }
 {
-    let mut due = no_rows();
+    let mut due = zeros::<ROWS>();
     let end = rows_of(index);
-    let mut r: usize = 0;
-    while r < end {
+    for r in 0..end {
         due[r] = row_due(index, rows, r);
-        r += 1;
     }
     due
 }
@@ -63,10 +61,8 @@ fn put_all_comes(rows: &mut [u32], clock: u32)
     requires { 192 + ROWS ≤ length rows.old }
     ensures { rows_of rows.new ≡ with_comes (replicate ROWS clock) (rows_of rows.old) }
 {
-    let mut r: usize = 0;
-    while r < ROWS {
+    for r in 0..ROWS {
         rows[COMES_AT + r] = clock;
-        r += 1;
     }
 }
 

@@ -7,7 +7,7 @@ ghost use Rattle.checker_rows.specs.MetRows.{entry_from, one_more, counted, colu
 ghost use Rattle.checker_rows.specs.MetRows.{met_rows, with_met, NoneMet, Rowed};
 ghost use Rattle.checker_rows.specs.Due.{miscounted_by};
 
-use arrays::{no_rows, wide};
+use arrays::{wide, zeros};
 use limits::ROWS;
 use log_rows::{Rows, put_comes, put_place};
 use plan_index::{Index, span_of};
@@ -67,12 +67,10 @@ pub fn met_rows(table: &[u32], c: u32, index: &Index, rows: &mut Rows) -> MetRow
     ensures { (result ≡ met_rows table.now c) × (rows_of rows.new
         ≡ with_met table.now c (laid index.now).span (rows_of rows.old)) }
 {
-    let mut count = no_rows();
-    let mut known = no_rows();
-    let mut at: usize = 0;
-    while at < table.len() {
-        put_entry(table, at, c, index, &mut count, &mut known, rows);
-        at += 5;
+    let mut count = zeros::<ROWS>();
+    let mut known = zeros::<ROWS>();
+    for i in 0..table.len() / 5 {
+        put_entry(table, i * 5, c, index, &mut count, &mut known, rows);
     }
     MetRows { count, known }
 }
@@ -82,12 +80,10 @@ pub fn miscounts(count: &[u32; ROWS], due: &[u32; ROWS], rows: usize) -> bool
     requires { rows ≤ ROWS }
     ensures { result ≡ miscounted_by count.now due.now rows }
 {
-    let mut r: usize = 0;
-    while r < rows {
+    for r in 0..rows {
         if count[r] != due[r] {
             return true;
         }
-        r += 1;
     }
     false
 }

@@ -45,12 +45,10 @@ fn overlaps(index: &Index, rows: &Rows, i: usize) -> bool
     if comes_of(rows, i) == 0 {
         return false;
     }
-    let mut j: usize = 0;
-    while j < i {
+    for j in 0..i {
         if together(index, rows, i, j) {
             return true;
         }
-        j += 1;
     }
     false
 }
@@ -62,12 +60,10 @@ pub fn overlap(index: &Index, rows: &Rows) -> bool
     ensures { result ≡ some_overlap (laid index.now) (rows_of rows.now) }
 {
     let processes = processes_of(index);
-    let mut i: usize = 0;
-    while i < processes {
+    for i in 0..processes {
         if overlaps(index, rows, i) {
             return true;
         }
-        i += 1;
     }
     false
 }

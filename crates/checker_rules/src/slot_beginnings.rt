@@ -52,12 +52,10 @@ pub fn off_slot(index: &Index, rows: &Rows) -> bool
     ensures { result ≡ some_off (laid index.now) (rows_of rows.now) }
 {
     let end = rows_of(index);
-    let mut r = processes_of(index);
-    while r < end {
+    for r in processes_of(index)..end {
         if off(index, rows, r) {
             return true;
         }
-        r += 1;
     }
     false
 }

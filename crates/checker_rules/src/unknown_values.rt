@@ -40,12 +40,10 @@ pub fn uses_unknown(index: &Index, rows: &Rows, column: &[u32; ROWS]) -> bool
         column.now }
 {
     let end = rows_of(index);
-    let mut r: usize = 0;
-    while r < end {
+    for r in 0..end {
         if row_uses_unknown(index, rows, column, r) {
             return true;
         }
-        r += 1;
     }
     false
 }

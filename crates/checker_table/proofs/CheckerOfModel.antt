@@ -1,7 +1,7 @@
 -- What is found in all combinations gives the answer of refusals 14 to 20, and so the checker's answer is that of the
 -- model.
 -- Assumes nothing.
-use Rattle.std.specs.Prelude.{if◌then◌else◌}
+use Rattle.std.specs.Prelude.{if◌then◌else◌, Result, Ok, Err}
 use mathlib.Core.Path.{◌≡◌, refl, sym, ap, ◌∙◌}
 use mathlib.Core.Logic.{◌⊎◌, inl, inr}
 use mathlib.Core.Bool.{Bool, true, false, not}
@@ -24,7 +24,6 @@ use Rattle.model.specs.Refusals.{Refusal, nothing, refused, sentence}
 use Rattle.model.specs.Table.{Entry, entries_of}
 use Rattle.model.specs.Checking.{ill_formed, met_log, not_once, uses_unknown, too_early, off_slot, overlap, share_byte, greatest_delay, in_some, table_refusal}
 use Rattle.plan_index.specs.declared.PlanIndex.{PlanIndex}
-use Rattle.checker_table.specs.declared.verdict.Checked.TheVariants.{Accepted, Refused}
 use Rattle.checker_table.specs.FirstRefusal.{first_of}
 use Rattle.checker_table.specs.Combinations.{found_by, least, found_all, Tabled}
 use Rattle.checker_table.specs.Verdict.{answer_of, verdict_by}
@@ -49,7 +48,7 @@ unfolding verdict_by answer_of
 judge n d stated = at (eqb n 20) (eqb stated d)
   where
     at : (x y : Bool) →
-        (if x then (if y then Accepted else Refused 20) else Refused n) ≡ answer_of (if x then sentence 20 (not y) nothing else refused n)
+        (if x then (if y then Ok tt else Err 20) else Err n) ≡ answer_of (if x then sentence 20 (not y) nothing else refused n)
     at true true = refl
     at true false = refl
     at false y = refl
@@ -60,8 +59,8 @@ unfolding verdict_by
 unjudged n d e stated h = at (two (eqb n 20))
   where
     at : (eqb n 20 ≡ true) ⊎ (eqb n 20 ≡ false) →
-        (if eqb n 20 then (if eqb stated d then Accepted else Refused 20) else Refused n) ≡ (if eqb n 20 then (if eqb stated e then Accepted else Refused 20) else Refused n)
-    at (inl q) = λ i. if eqb n 20 then (if eqb stated (h (eqb-true n 20 q) i) then Accepted else Refused 20) else Refused n
+        ◌≡◌ {A = Result (Unit {0}) ℕ} (if eqb n 20 then (if eqb stated d then Ok tt else Err 20) else Err n) (if eqb n 20 then (if eqb stated e then Ok tt else Err 20) else Err n)
+    at (inl q) = λ i. if eqb n 20 then (if eqb stated (h (eqb-true n 20 q) i) then Ok tt else Err 20) else Err n
     at (inr q) = rw q
 
 module _ (b : PlanIndex) (words : List ℕ) (t : Tabled b words) where

@@ -14,14 +14,14 @@ use Rattle.checker_rows.specs.MetRows.{met_rows, with_met, Small}
 use Rattle.checker_rows.specs.Due.{due_of, with_active, miscounted_by}
 use Rattle.log_queries.specs.Reading.{last_end_by}
 use Rattle.checker_table.specs.FirstRefusal.{first_in}
-use Rattle.checker_table.specs.declared.verdict.Found.{Found}
+use Rattle.checker_table.specs.Finding.{Finding}
 
 -- the rows of the combination with number c: its met entries, its active processes and its unmet `when`s
 abbrev pub rows_in : PlanIndex → List ℕ → ℕ → Rows
 rows_in b words c = with_met words c b.span (with_active b c no_rows)
 
 -- what is found in the combination with number c: 14 to 19, and the delay where 14 finds nothing
-unfoldable pub found_by : PlanIndex → List ℕ → ℕ → Found
+unfoldable pub found_by : PlanIndex → List ℕ → ℕ → Finding
 found_by b words c =
     let m : MetRows = met_rows words c in
     if miscounted_by m.count (due_of b c) b.rows
@@ -35,7 +35,7 @@ module _ {A : Type 0} where
   least f (x ∷ xs) = min (f x) (least f xs)
 
 -- what is found in the first n combinations
-unfoldable pub found_all : PlanIndex → List ℕ → ℕ → Found
+unfoldable pub found_all : PlanIndex → List ℕ → ℕ → Finding
 found_all b words n =
     record { first = least (λ c. (found_by b words c).first) (below n); delay = greatest (map (λ c. (found_by b words c).delay) (below n)) }
 

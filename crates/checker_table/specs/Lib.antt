@@ -1,3 +1,4 @@
 pub mod FirstRefusal
+pub mod Finding
 pub mod Verdict
 pub mod Combinations

@@ -9,4 +9,3 @@ mod table;
 mod verdict;
 
 pub use table::check_words;
-pub use verdict::Checked;

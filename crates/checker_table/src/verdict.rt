@@ -1,31 +1,28 @@
 // What is found in one combination or in all, and what the checker answers to it.
 ghost use Rattle.std.specs.Prelude.{◌≡◌};
+ghost use Rattle.refusals.specs.Numbers.{numbered};
+ghost use Rattle.checker_table.specs.Finding.{Early, finding_of};
 ghost use Rattle.checker_table.specs.Verdict.{verdict_by};
 
-// What is found in one combination, or in all: the first of refusals 14 to 19 that applies, 20 if none does, and the
-// delay.
+use refusals::Refusal;
+
+// What is found in one combination, or in all: the first of refusals 14 to 19 that applies, and the delay.
 #[derive(Clone, Copy)]
 pub struct Found {
-    pub first: u32,
+    pub first: Option<Refusal>,
     pub delay: u32,
 }
 
-// What the checker answers: accepted, or the number of the first refusal that applies.
-#[derive(Clone, Copy)]
-pub enum Checked {
-    Accepted,
-    Refused(u32),
-}
-
-// The answer to what is found in all combinations, given the stated delay.
-pub(crate) fn verdict(found: Found, delay: u64) -> Checked
-    ensures { result ≡ verdict_by found delay }
+// The answer to what is found in all combinations, given the stated delay: the first refusal that applies.
+pub(crate) fn verdict(found: Found, delay: u64) -> Result<(), Refusal>
+    requires { Early found.first }
+    ensures { numbered result ≡ verdict_by (finding_of found) delay }
 {
-    if found.first != 20 {
-        return Checked::Refused(found.first);
+    if let Some(refusal) = found.first {
+        return Err(refusal);
     }
-    if delay != found.delay as u64 {
-        return Checked::Refused(20);
+    if delay != u64::from(found.delay) {
+        return Err(Refusal::StatedDelay);
     }
-    Checked::Accepted
+    Ok(())
 }

@@ -1,6 +1,7 @@
 -- Whatever values a function's contract allows are those of a call: the relations of specs/Calls.antt say no more
 -- than the contracts, so that the demands, which are stated over them, are not about nothing.
 -- Assumes nothing.
+use Rattle.std.specs.Prelude.{Option}
 use Prim.Native.Nat.{ℕ, ◌*◌}
 use mathlib.Core.Path.{◌≡◌}
 use mathlib.Core.List.{List, []}
@@ -9,22 +10,17 @@ use Rattle.model.specs.Text.{AnswersText}
 use Rattle.model.specs.Checking.{check}
 use Rattle.model.specs.Lookup.{lookup, row_start, row_length}
 use Rattle.model.specs.Firmware.{words_of, AnswersLookup}
+use Rattle.refusals.specs.Numbers.{numbered}
 use Rattle.plan.specs.declared.Plan.{Plan}
+use Rattle.planner_table.specs.declared.Made.{Made}
 use Rattle.plan.specs.Memory.{lines, empty_plan}
-use Rattle.plan_refusals.specs.declared.sentences.Refusal.{Refusal}
 use Rattle.plan_refusals.specs.Answer.{refusal_of}
-use Rattle.text_reader.specs.declared.reader.Read.{Read}
-use Rattle.text_reader.specs.Answer.{reading_of, Emptied}
-use Rattle.text_writer.specs.declared.writer.Written.{Written}
-use Rattle.planner_table.specs.declared.Planned.{Planned}
-use Rattle.listing.specs.declared.writer.Listed.{Listed}
+use Rattle.text_reader.specs.Answer.{reading_of}
 use Rattle.program.specs.Listing.{ListsPlan}
 use Rattle.program.specs.Printing.{Prints}
-use Rattle.checker_table.specs.declared.verdict.Checked.{Checked}
 use Rattle.checker_table.specs.Verdict as checker
 use Rattle.checker_listing.specs.Listing as checker-listing
 use Rattle.check_program.specs.Answer as check-program
-use Rattle.kernel.specs.declared.search.Found.{Found}
 use Rattle.kernel.specs.Finding.{found_of}
 use Rattle.c_check.specs.Checks.{Checks}
 use Rattle.c_text.specs.Copy.{Copies}
@@ -32,6 +28,7 @@ use Rattle.c_text.specs.Listing.{Lists}
 use Rattle.c_interface.specs.Tables.{Tables}
 use Rattle.c_interface.specs.Listings.{ChecksListingText}
 use denote.Ref.{Bor, MutBor}
+use Rattle.demands.specs.Calls.{Outcome}
 use Rattle.demands.specs.Calls as calls
 use Rattle.demands.proofs.Contracts.{WritePlanSaid, PlanTableSaid, WriteListingSaid, WriteRefusalSaid, RowEntriesSaid}
 
@@ -50,32 +47,32 @@ pub empty_called : (p : Plan) → p ≡ empty_plan → calls.Empty p
 empty_called p e =
     calls.empty (record { lifetimes = tt; handed = tt; result = p; ended = tt; learnt = e })
 
-pub refuse_called : (p : Plan) (r : Refusal) → refusal_of r ≡ plan_refusal (lines p) → calls.Refuse p r
+pub refuse_called : (p : Plan) (r : Outcome (Unit {0})) → refusal_of r ≡ plan_refusal (lines p) → calls.Refuse p r
 refuse_called p r e =
     calls.refuse (record { lifetimes = tt; handed = (p, tt); result = r; ended = (p, tt); learnt = e })
 
-pub read_plan_called : (text : List ℕ) (r : Read) → (AnswersText text (reading_of r) × Emptied r) → calls.ReadPlan text r
+pub read_plan_called : (text : List ℕ) (r : Outcome Plan) → AnswersText text (reading_of r) → calls.ReadPlan text r
 read_plan_called text r e =
-    calls.read_plan (record { lifetimes = ([], tt); handed = (lent text, tt); result = r; ended = (lent text, tt); learnt = (e.0, e.1) })
+    calls.read_plan (record { lifetimes = ([], tt); handed = (lent text, tt); result = r; ended = (lent text, tt); learnt = e })
 
-pub write_plan_called : (p : Plan) (out out-now : List ℕ) (r : Written) → WritePlanSaid p out out-now r → calls.WritePlan p out out-now r
+pub write_plan_called : (p : Plan) (out out-now : List ℕ) (r : Outcome ℕ) → WritePlanSaid p out out-now r → calls.WritePlan p out out-now r
 write_plan_called p out out-now r e =
     calls.write_plan (record { lifetimes = ([], tt); handed = (p, (lent_mut out, tt)); result = r; ended = (p, (lent_mut out-now, tt)); learnt = (e.0, e.1) })
 
-pub plan_table_called : (p : Plan) (table frames passed table-now frames-now passed-now : List ℕ) (r : Planned) → PlanTableSaid p table frames passed table-now frames-now passed-now r →
+pub plan_table_called : (p : Plan) (table frames passed table-now frames-now passed-now : List ℕ) (r : Outcome Made) → PlanTableSaid p table frames passed table-now frames-now passed-now r →
     calls.PlanTable p table frames passed table-now frames-now passed-now r
 plan_table_called p table frames passed table-now frames-now passed-now r e =
     calls.plan_table (record { lifetimes = ([], ([], ([], tt))); handed = (p, (lent_mut table, (lent_mut frames, (lent_mut passed, tt)))); result = r; ended = (p, (lent_mut table-now, (lent_mut frames-now, (lent_mut passed-now, tt)))); learnt = (e.0, (e.1, (e.2, e.3))) })
 
-pub write_listing_called : (p : Plan) (delay : ℕ) (passed table frames out out-now : List ℕ) (r : Listed) → WriteListingSaid p delay passed table frames out out-now r → calls.WriteListing p delay passed table frames out out-now r
+pub write_listing_called : (p : Plan) (delay : ℕ) (passed table frames out out-now : List ℕ) (r : Outcome ℕ) → WriteListingSaid p delay passed table frames out out-now r → calls.WriteListing p delay passed table frames out out-now r
 write_listing_called p delay passed table frames out out-now r e =
     calls.write_listing (record { lifetimes = ([], ([], tt)); handed = (p, (delay, (lent passed, (lent table, (lent frames, (lent_mut out, tt)))))); result = r; ended = (p, (delay, (lent passed, (lent table, (lent frames, (lent_mut out-now, tt)))))); learnt = (e.0, e.1) })
 
-pub write_refusal_called : (number : ℕ) (out out-now : List ℕ) (r : Listed) → WriteRefusalSaid number out out-now r → calls.WriteRefusal number out out-now r
+pub write_refusal_called : (number : ℕ) (out out-now : List ℕ) (r : Outcome ℕ) → WriteRefusalSaid number out out-now r → calls.WriteRefusal number out out-now r
 write_refusal_called number out out-now r e =
     calls.write_refusal (record { lifetimes = ([], tt); handed = (number, (lent_mut out, tt)); result = r; ended = (number, (lent_mut out-now, tt)); learnt = (e.0, e.1) })
 
-pub list_plan_called : (text out out-now : List ℕ) (r : Listed) → ListsPlan text out out-now r → calls.ListPlan text out out-now r
+pub list_plan_called : (text out out-now : List ℕ) (r : Outcome ℕ) → ListsPlan text out out-now r → calls.ListPlan text out out-now r
 list_plan_called text out out-now r e =
     calls.list_plan (record { lifetimes = ([], ([], tt)); handed = (lent text, (lent_mut out, tt)); result = r; ended = (lent text, (lent_mut out-now, tt)); learnt = e })
 
@@ -83,11 +80,11 @@ pub print_all_called : (text out out-now : List ℕ) (r : ℕ) → Prints text o
 print_all_called text out out-now r e =
     calls.print_all (record { lifetimes = ([], ([], tt)); handed = (lent text, (lent_mut out, tt)); result = r; ended = (lent text, (lent_mut out-now, tt)); learnt = e })
 
-pub check_table_called : (p : Plan) (table : List ℕ) (delay : ℕ) (r : Checked) → r ≡ checker.answer_of (check (lines p) table delay) → calls.CheckTable p table delay r
+pub check_table_called : (p : Plan) (table : List ℕ) (delay : ℕ) (r : Outcome (Unit {0})) → numbered r ≡ checker.answer_of (check (lines p) table delay) → calls.CheckTable p table delay r
 check_table_called p table delay r e =
     calls.check_table (record { lifetimes = ([], tt); handed = (p, (lent table, (delay, tt))); result = r; ended = (p, (lent table, (delay, tt))); learnt = e })
 
-pub check_listing_called : (p : Plan) (listing : List ℕ) (r : Checked) → checker-listing.Checks (lines p) listing r → calls.CheckListing p listing r
+pub check_listing_called : (p : Plan) (listing : List ℕ) (r : Outcome (Unit {0})) → checker-listing.Checks (lines p) listing r → calls.CheckListing p listing r
 check_listing_called p listing r e =
     calls.check_listing (record { lifetimes = ([], tt); handed = (p, (lent listing, tt)); result = r; ended = (p, (lent listing, tt)); learnt = e })
 
@@ -99,7 +96,7 @@ pub row_entries_called : (place : ℕ × ℕ) (table : List ℕ) (row : ℕ) (pa
 row_entries_called place table row part-place part e =
     calls.row_entries (record { lifetimes = ([], tt); handed = (lent_at place table, (row, tt)); result = lent_at part-place part; ended = (lent_at place table, (row, tt)); learnt = (e.0, e.1) })
 
-pub lookup_called : (p : Plan) (table : List ℕ) (node tick heard values from : ℕ) (r : Found) → r ≡ found_of (lookup (lines p) table node tick heard values from) → calls.Lookup p table node tick heard values from r
+pub lookup_called : (p : Plan) (table : List ℕ) (node tick heard values from : ℕ) (r : Outcome (Option ℕ)) → numbered r ≡ found_of (lookup (lines p) table node tick heard values from) → calls.Lookup p table node tick heard values from r
 lookup_called p table node tick heard values from r e =
     calls.lookup (record { lifetimes = ([], tt); handed = (p, (lent table, (node, (tick, (heard, (values, (from, tt))))))); result = r; ended = (p, (lent table, (node, (tick, (heard, (values, (from, tt))))))); learnt = e })
 

@@ -1,6 +1,7 @@
 -- What is known of a call of each function is what its contract in the code says, in the definitions that the `ensures`
 -- is written with; the code keeps these contracts, and they ask nothing of a caller.
 -- Assumes nothing.
+use Rattle.std.specs.Prelude.{Option}
 use Prim.Native.Nat.{ℕ, ◌*◌}
 use mathlib.Core.Path.{◌≡◌}
 use mathlib.Core.List.{List}
@@ -12,26 +13,21 @@ use Rattle.model.specs.Listing.{words_listing, refused_line}
 use Rattle.model.specs.Checking.{check}
 use Rattle.model.specs.Lookup.{lookup, row_start, row_length, row_part}
 use Rattle.model.specs.Firmware.{words_of, AnswersLookup}
+use Rattle.refusals.specs.Numbers.{numbered}
 use Rattle.plan.specs.declared.Plan.{Plan}
+use Rattle.planner_table.specs.declared.Made.{Made}
 use Rattle.plan.specs.Memory.{lines, empty_plan}
-use Rattle.plan_refusals.specs.declared.sentences.Refusal.{Refusal}
 use Rattle.plan_refusals.specs.Answer.{refusal_of}
-use Rattle.text_reader.specs.declared.reader.Read.{Read}
-use Rattle.text_reader.specs.Answer.{reading_of, Emptied}
-use Rattle.text_writer.specs.declared.writer.Written.{Written}
-use Rattle.text_writer.specs.Answer as writer
-use Rattle.planner_table.specs.declared.Planned.{Planned}
+use Rattle.text_reader.specs.Answer.{reading_of}
+use Rattle.text_lines.specs.Answer as writer
 use Rattle.planner_table.specs.Planner as planner
-use Rattle.listing.specs.declared.writer.Listed.{Listed}
 use Rattle.listing.specs.Answer as listing
 use Rattle.program.specs.Listing.{ListsPlan}
 use Rattle.program.specs.Printing.{Prints}
-use Rattle.checker_table.specs.declared.verdict.Checked.{Checked}
 use Rattle.checker_table.specs.Verdict as checker
 use Rattle.checker_listing.specs.Listing as checker-listing
 use Rattle.check_program.specs.Answer as check-program
 use Rattle.kernel_rows.specs.Part.{words_on}
-use Rattle.kernel.specs.declared.search.Found.{Found}
 use Rattle.kernel.specs.Finding.{found_of}
 use Rattle.c_check.specs.Checks.{Checks}
 use Rattle.c_text.specs.Copy.{Copies}
@@ -39,6 +35,7 @@ use Rattle.c_text.specs.Listing.{Lists}
 use Rattle.c_interface.specs.Tables.{Tables}
 use Rattle.c_interface.specs.Listings.{ChecksListingText}
 use Rattle.demands.specs.Calls.{CodeKeeps, AsksNothing}
+use Rattle.demands.specs.Calls.{Outcome}
 use Rattle.demands.specs.Calls as calls
 use Rattle.plan.proofs.empty.Met as empty-met
 use Rattle.plan_refusals.proofs.refuse.Met as refuse-met
@@ -66,60 +63,60 @@ use Rattle.c_interface.proofs.riscadru_row_length.Met as c-row-length-met
 pub empty_says : {p : Plan} → calls.Empty p → p ≡ empty_plan
 empty_says (calls.empty c) = c.learnt
 
-pub refuse_says : {p : Plan} {r : Refusal} → calls.Refuse p r → refusal_of r ≡ plan_refusal (lines p)
+pub refuse_says : {p : Plan} {r : Outcome (Unit {0})} → calls.Refuse p r → refusal_of r ≡ plan_refusal (lines p)
 refuse_says (calls.refuse c) = c.learnt
 
-pub read_plan_says : {text : List ℕ} {r : Read} → calls.ReadPlan text r → AnswersText text (reading_of r) × Emptied r
-read_plan_says (calls.read_plan c) = (c.learnt.0, c.learnt.1)
+pub read_plan_says : {text : List ℕ} {r : Outcome Plan} → calls.ReadPlan text r → AnswersText text (reading_of r)
+read_plan_says (calls.read_plan c) = c.learnt
 
 -- what the contract of `text_writer::write_plan` says
-abbrev pub WritePlanSaid : Plan → (out out-now : List ℕ) → Written → Type 0
+abbrev pub WritePlanSaid : Plan → (out out-now : List ℕ) → Outcome ℕ → Type 0
 WritePlanSaid p out out-now r =
-    (r ≡ writer.answer_of (write_plan (lines p) (length out))) × (out-now ≡ bytes_after (write_plan (lines p) (length out)) out)
+    (numbered r ≡ writer.answer_of (write_plan (lines p) (length out))) × (out-now ≡ bytes_after (write_plan (lines p) (length out)) out)
 
-pub write_plan_says : {p : Plan} {out out-now : List ℕ} {r : Written} → calls.WritePlan p out out-now r → WritePlanSaid p out out-now r
+pub write_plan_says : {p : Plan} {out out-now : List ℕ} {r : Outcome ℕ} → calls.WritePlan p out out-now r → WritePlanSaid p out out-now r
 write_plan_says (calls.write_plan c) = (c.learnt.0, c.learnt.1)
 
 -- what the contract of `planner::plan_table` says
-abbrev pub PlanTableSaid : Plan → (table frames passed table-now frames-now passed-now : List ℕ) → Planned → Type 0
+abbrev pub PlanTableSaid : Plan → (table frames passed table-now frames-now passed-now : List ℕ) → Outcome Made → Type 0
 PlanTableSaid p table frames passed table-now frames-now passed-now r =
-    (r ≡ planner.answer_of (plan_answer (lines p) (length table) (length frames)))
+    (numbered r ≡ planner.answer_of (plan_answer (lines p) (length table) (length frames)))
     × (table-now ≡ table_after (plan_answer (lines p) (length table) (length frames)) table)
     × (frames-now ≡ frames_after (plan_answer (lines p) (length table) (length frames)) frames)
     × (passed-now ≡ counts_after (plan_answer (lines p) (length table) (length frames)) passed)
 
-pub plan_table_says : {p : Plan} {table frames passed table-now frames-now passed-now : List ℕ} {r : Planned} → calls.PlanTable p table frames passed table-now frames-now passed-now r →
+pub plan_table_says : {p : Plan} {table frames passed table-now frames-now passed-now : List ℕ} {r : Outcome Made} → calls.PlanTable p table frames passed table-now frames-now passed-now r →
     PlanTableSaid p table frames passed table-now frames-now passed-now r
 plan_table_says (calls.plan_table c) = (c.learnt.0, c.learnt.1.0, c.learnt.1.1.0, c.learnt.1.1.1)
 
 -- what the contract of `listing::write_listing` says
-abbrev pub WriteListingSaid : Plan → (delay : ℕ) → (passed table frames out out-now : List ℕ) → Listed → Type 0
+abbrev pub WriteListingSaid : Plan → (delay : ℕ) → (passed table frames out out-now : List ℕ) → Outcome ℕ → Type 0
 WriteListingSaid p delay passed table frames out out-now r =
-    (r ≡ listing.answer_of (listing.written_of (length out) (words_listing (lines p) delay passed table frames)))
+    (numbered r ≡ writer.answer_of (listing.written_of (length out) (words_listing (lines p) delay passed table frames)))
     × (out-now ≡ bytes_after (listing.written_of (length out) (words_listing (lines p) delay passed table frames)) out)
 
-pub write_listing_says : {p : Plan} {delay : ℕ} {passed table frames out out-now : List ℕ} {r : Listed} → calls.WriteListing p delay passed table frames out out-now r → WriteListingSaid p delay passed table frames out out-now r
+pub write_listing_says : {p : Plan} {delay : ℕ} {passed table frames out out-now : List ℕ} {r : Outcome ℕ} → calls.WriteListing p delay passed table frames out out-now r → WriteListingSaid p delay passed table frames out out-now r
 write_listing_says (calls.write_listing c) = (c.learnt.0, c.learnt.1)
 
 -- what the contract of `listing::write_refusal` says
-abbrev pub WriteRefusalSaid : ℕ → (out out-now : List ℕ) → Listed → Type 0
+abbrev pub WriteRefusalSaid : ℕ → (out out-now : List ℕ) → Outcome ℕ → Type 0
 WriteRefusalSaid number out out-now r =
-    (r ≡ listing.answer_of (listing.written_of (length out) (refused_line number)))
+    (numbered r ≡ writer.answer_of (listing.written_of (length out) (refused_line number)))
     × (out-now ≡ bytes_after (listing.written_of (length out) (refused_line number)) out)
 
-pub write_refusal_says : {number : ℕ} {out out-now : List ℕ} {r : Listed} → calls.WriteRefusal number out out-now r → WriteRefusalSaid number out out-now r
+pub write_refusal_says : {number : ℕ} {out out-now : List ℕ} {r : Outcome ℕ} → calls.WriteRefusal number out out-now r → WriteRefusalSaid number out out-now r
 write_refusal_says (calls.write_refusal c) = (c.learnt.0, c.learnt.1)
 
-pub list_plan_says : {text out out-now : List ℕ} {r : Listed} → calls.ListPlan text out out-now r → ListsPlan text out out-now r
+pub list_plan_says : {text out out-now : List ℕ} {r : Outcome ℕ} → calls.ListPlan text out out-now r → ListsPlan text out out-now r
 list_plan_says (calls.list_plan c) = c.learnt
 
 pub print_all_says : {text out out-now : List ℕ} {count : ℕ} → calls.PrintAll text out out-now count → Prints text out out-now count
 print_all_says (calls.print_all c) = c.learnt
 
-pub check_table_says : {p : Plan} {table : List ℕ} {delay : ℕ} {r : Checked} → calls.CheckTable p table delay r → r ≡ checker.answer_of (check (lines p) table delay)
+pub check_table_says : {p : Plan} {table : List ℕ} {delay : ℕ} {r : Outcome (Unit {0})} → calls.CheckTable p table delay r → numbered r ≡ checker.answer_of (check (lines p) table delay)
 check_table_says (calls.check_table c) = c.learnt
 
-pub check_listing_says : {p : Plan} {listing : List ℕ} {r : Checked} → calls.CheckListing p listing r → checker-listing.Checks (lines p) listing r
+pub check_listing_says : {p : Plan} {listing : List ℕ} {r : Outcome (Unit {0})} → calls.CheckListing p listing r → checker-listing.Checks (lines p) listing r
 check_listing_says (calls.check_listing c) = c.learnt
 
 pub print_check_says : {input out out-now : List ℕ} {count : ℕ} → calls.PrintCheck input out out-now count → check-program.Prints input out out-now count
@@ -133,8 +130,8 @@ RowEntriesSaid place table row part-place part =
 pub row_entries_says : {place : ℕ × ℕ} {table : List ℕ} {row : ℕ} {part-place : ℕ × ℕ} {part : List ℕ} → calls.RowEntries place table row part-place part → RowEntriesSaid place table row part-place part
 row_entries_says (calls.row_entries c) = (c.learnt.0, c.learnt.1)
 
-pub lookup_says : {p : Plan} {table : List ℕ} {node tick heard values from : ℕ} {r : Found} → calls.Lookup p table node tick heard values from r →
-    r ≡ found_of (lookup (lines p) table node tick heard values from)
+pub lookup_says : {p : Plan} {table : List ℕ} {node tick heard values from : ℕ} {r : Outcome (Option ℕ)} → calls.Lookup p table node tick heard values from r →
+    numbered r ≡ found_of (lookup (lines p) table node tick heard values from)
 lookup_says (calls.lookup c) = c.learnt
 
 pub c_copy_plan_says : {text out out-now : List ℕ} {answer : ℕ} → calls.CCopyPlan text out out-now answer → Copies text out out-now answer

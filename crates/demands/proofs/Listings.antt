@@ -1,6 +1,7 @@
 -- The refusal that the model answers to a listing is the first sentence that applies, for a plan in memory and for a
 -- plan text; and to every plan text with a listing one applies first, or none.
 -- Assumes nothing.
+use Rattle.std.specs.Prelude.{Ok, Err}
 use Prim.Native.Nat.{ℕ, ◌≤◌}
 use mathlib.Core.Path.{◌≡◌, refl, sym, ap, subst, ◌∙◌}
 use mathlib.Core.Bool.{◌||◌}
@@ -14,15 +15,15 @@ use Rattle.model.specs.Refusals.{Refusal, nothing, refused, sentence, or_else, p
 use Rattle.model.specs.Text.{Means, Reading, reads, not_read, after_refusal, AnswersText, too_long, of_no_form, of_form}
 use Rattle.model.specs.Table.{Result, entry_words}
 use Rattle.model.specs.ListingText.{listed, not_listed, no_listing, a_listing, other_frames, other_counts, stated_refusal, listed_refusal, ChecksListing, by_plan, by_listing, ChecksTexts, no_plan, a_plan, plan_part, listing_part, check_prints}
+use Rattle.refusals.specs.Numbers.{numbered}
 use Rattle.plan.specs.declared.Plan.{Plan}
 use Rattle.plan.specs.Memory.{lines}
-use Rattle.checker_table.specs.declared.verdict.Checked.{Checked}
-use Rattle.checker_table.specs.declared.verdict.Checked.TheVariants as checked
 use Rattle.checker_listing.specs.Listing as checker-listing
 use Rattle.check_program.specs.Answer.{Prints}
 use Rattle.c_interface.specs.Listings.{ChecksListingText}
 use Rattle.text_grammar.proofs.Answers.{one_answer}
 use Rattle.listing_grammar.proofs.Answered.{listing_answered, checks_unique, texts_unique}
+use Rattle.demands.specs.Calls.{Outcome}
 use Rattle.demands.specs.Sentences.{first, plan_sentences, table_sentences, frame_sentences, FirstOfListing, not_of_its_form, of_what_it_states, FirstOfCheck, of_plan, of_listing, FirstOfTexts, text_exceeds, text_not_of_the_form, of_text, KeepsTo, InNumber}
 use Rattle.demands.proofs.Firsts.{plan_first, table_first, first_append, number_listed, keeps}
 use Rattle.demands.proofs.Told.{told_checked}
@@ -123,11 +124,11 @@ texts_number text bytes (text_not_of_the_form f) n q = let z : 1 ≡ n = cc in (
 texts_number text bytes (of_text p x m l c) n q = check_number p bytes c n q
 
 -- `checker::check_listing`
-pub checking_listing : (p : Plan) (bytes : List ℕ) (r : Checked) → checker-listing.Checks (lines p) bytes r →
-    KeepsTo (FirstOfCheck (lines p) bytes) (λ n. r ≡ checked.Refused n) (Unit {0}) (r ≡ checked.Accepted)
+pub checking_listing : (p : Plan) (bytes : List ℕ) (r : Outcome (Unit {0})) → checker-listing.Checks (lines p) bytes r →
+    KeepsTo (FirstOfCheck (lines p) bytes) (λ n. numbered r ≡ Err n) (Unit {0}) (r ≡ Ok tt)
 checking_listing p bytes r c =
     let h = checks_first (lines p) bytes c.of_listing in
-    keeps (FirstOfCheck (lines p) bytes) (λ n. r ≡ checked.Refused n) (Unit {0}) (r ≡ checked.Accepted) c.refusal h
+    keeps (FirstOfCheck (lines p) bytes) (λ n. numbered r ≡ Err n) (Unit {0}) (r ≡ Ok tt) c.refusal h
     (λ y k. check_one (lines p) bytes c.refusal y h k) (told_checked c.refusal r c.answer)
 
 -- `check_program::print_check`

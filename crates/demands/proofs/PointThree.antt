@@ -1,5 +1,6 @@
 -- Document 02, point 3, as a theorem: see specs/PointThree.antt.
 -- Assumes nothing.
+use Rattle.std.specs.Prelude.{Ok, Err}
 use Prim.Native.Nat.{ℕ, ◌+◌, ◌<◌}
 use mathlib.Core.Path.{◌≡◌, refl, sym, ap, subst, ◌∙◌}
 use mathlib.Core.List.{List, [], ◌++◌, append_assoc, append-nil}
@@ -22,12 +23,12 @@ use Rattle.laws.proofs.Words.{counts_each}
 use Rattle.listing_grammar.proofs.Whole.{states_unique}
 use Rattle.listing_grammar.proofs.Answered.{checks_unique}
 use Rattle.listing_grammar.proofs.PassedLines.{next_line, not_the_old, no_further}
+use Rattle.refusals.specs.Numbers.{numbered}
 use Rattle.plan.specs.declared.Plan.{Plan}
 use Rattle.plan.specs.Memory.{lines}
-use Rattle.checker_table.specs.declared.verdict.Checked.{Checked}
-use Rattle.checker_table.specs.declared.verdict.Checked.TheVariants as checked
 use Rattle.checker_table.specs.Verdict.{answer_of}
 use Rattle.checker_listing.specs.Listing.{Checks}
+use Rattle.demands.specs.Calls.{Outcome}
 use Rattle.demands.specs.PointThree.{passed_by_node, begins, Point3}
 use Rattle.demands.proofs.Contracts.{check_listing_says, c_plan_table_says}
 use Rattle.demands.proofs.Firsts.{plan_first}
@@ -63,7 +64,7 @@ unfolding passed_lines
 begins_none delay rest = ap (λ (s : List ℕ). s ++ rest) (append-nil (field "delay" delay ++ text "\n"))
 
 -- a text that states nothing is answered with 21
-stating_nothing : (p : Plan) (bytes : List ℕ) → plan_refusal (lines p) ≡ nothing → ((s : Result) → States (lines p) bytes s → ⊥) → (r : Checked) → Checks (lines p) bytes r → r ≡ checked.Refused 21
+stating_nothing : (p : Plan) (bytes : List ℕ) → plan_refusal (lines p) ≡ nothing → ((s : Result) → States (lines p) bytes s → ⊥) → (r : Outcome (Unit {0})) → Checks (lines p) bytes r → numbered r ≡ Err 21
 unfolding listed_refusal answer_of
 stating_nothing p bytes fine h r c = c.answer ∙ ap answer_of (checks_unique (lines p) c.of_listing (by_listing (not_listed 21) fine (no_listing h)))
 
@@ -105,7 +106,7 @@ point_3 =
           stating_nothing p (begins delay counts (text "(passed " ++ rest)) fine
           (no_further (lines p) fine delay counts rest b.0 b.1 each_one) r (check_listing_says c));
       compared = λ p bytes c s m n l.
-          (let a = (point_2.accepts p bytes checked.Accepted c).0 refl in
+          (let a = (point_2.accepts p bytes (Ok tt) c).0 refl in
           let fine : plan_refusal (lines p) ≡ nothing = sound_fine (lines p) _ _ a.sound in
           let q : a.stated ≡ s = states_unique (lines p) fine a.states m in
           ap (λ (z : Result). get_or z.passed n 0) (sym q) ∙ ap (λ (xs : List ℕ). get_or xs n 0) a.its_counts ∙ by_node (lines p) n l);

@@ -1,5 +1,6 @@
 -- Document 02, point 2, as a theorem: see specs/PointTwo.antt.
 -- Assumes nothing.
+use Rattle.std.specs.Prelude.{Ok}
 use Prim.Native.Nat.{ℕ, ◌≤◌}
 use mathlib.Core.Path.{◌≡◌, refl, sym, ap, subst, ◌∙◌}
 use mathlib.Core.Bool.{false, ◌||◌}
@@ -28,20 +29,20 @@ use Rattle.listing_grammar.proofs.Whole.{states_unique}
 use Rattle.listing_grammar.proofs.Tables.{listed_table, table_states}
 use Rattle.listing_grammar.proofs.Answered.{AcceptedListing as Has, listing_accepted, accepted_checks, checks_unique, texts_unique, own_checks, own_input}
 use Rattle.listing_grammar.proofs.Longer.{longer_alike}
+use Rattle.refusals.specs.Numbers.{numbered}
+use Rattle.refusals.proofs.Numbered.{is_ok}
 use Rattle.plan.specs.declared.Plan.{Plan}
 use Rattle.plan.specs.Memory.{lines}
-use Rattle.listing.specs.declared.writer.Listed.{Listed}
-use Rattle.listing.specs.declared.writer.Listed.TheVariants as listed
+use Rattle.text_lines.specs.Answer as writer
 use Rattle.listing.specs.Answer as listing-answer
-use Rattle.checker_table.specs.declared.verdict.Checked.{Checked}
-use Rattle.checker_table.specs.declared.verdict.Checked.TheVariants as checked
 use Rattle.checker_table.specs.Verdict.{answer_of}
 use Rattle.checker_table.proofs.AcceptedSound.{accepted_sound}
 use Rattle.checker_listing.specs.Listing.{Checks}
 use Rattle.c_check.specs.Checks.{checked_number}
 use Rattle.c_interface.specs.Listings.{ChecksListingText}
+use Rattle.demands.specs.Calls.{Outcome}
 use Rattle.demands.specs.Calls as calls
-use Rattle.demands.specs.Kernel.{means, asked}
+use Rattle.demands.specs.Kernel.{asked}
 use Rattle.demands.specs.Sentences.{plan_sentences, room_sentences, listing_sentences, FirstOfText, exceeds, not_of_the_form, of_lines, FirstOfTexts, text_exceeds, text_not_of_the_form, of_text}
 use Rattle.demands.specs.Two.{NotRefused, Plans, ListedPlan}
 use Rattle.demands.specs.PointTwo.{AcceptedListing, AcceptedFor, listing_of, CanBeListed, Point2}
@@ -53,7 +54,7 @@ use Rattle.demands.proofs.Three.{means_back}
 use Rattle.demands.proofs.Contracts.{write_listing_says, check_table_says, check_listing_says, print_check_says, c_check_listing_says, lookup_says}
 
 -- an answer of none is that nothing is refused
-none_answered : (x : Refusal) → answer_of x ≡ checked.Accepted → x ≡ nothing
+none_answered : (x : Refusal) → answer_of x ≡ Ok tt → x ≡ nothing
 unfolding answer_of
 none_answered nothing e = refl
 none_answered (refused n) e = absurd (let z : ◌≡◌ {A = ℕ} 0 1 = cc in omega arith)
@@ -63,27 +64,27 @@ module _ (p : Plan) (bytes : List ℕ) where
   has : Has (lines p) bytes → AcceptedListing (lines p) bytes
   has h = record { stated = h.stated; states = h.states; sound = h.has.sound; its_frames = h.has.its_frames; its_counts = h.has.its_counts }
 
-  accepted_has : (r : Checked) → Checks (lines p) bytes r → r ≡ checked.Accepted → AcceptedListing (lines p) bytes
+  accepted_has : (r : Outcome (Unit {0})) → Checks (lines p) bytes r → r ≡ Ok tt → AcceptedListing (lines p) bytes
   accepted_has r c e =
-      let q = none_answered c.refusal (sym c.answer ∙ e) in
+      let q = none_answered c.refusal (sym c.answer ∙ ap numbered e) in
       has (listing_accepted (lines p) (subst (ChecksListing (lines p) bytes) q c.of_listing))
 
 has_back : (p : Lines) (bytes : List ℕ) → AcceptedListing p bytes → Has p bytes
 has_back p bytes a =
     record { stated = a.stated; states = a.states; has = record { sound = a.sound; its_frames = a.its_frames; its_counts = a.its_counts } }
 
-has_accepted : (p : Plan) (bytes : List ℕ) (r : Checked) → Checks (lines p) bytes r → AcceptedListing (lines p) bytes → r ≡ checked.Accepted
+has_accepted : (p : Plan) (bytes : List ℕ) (r : Outcome (Unit {0})) → Checks (lines p) bytes r → AcceptedListing (lines p) bytes → r ≡ Ok tt
 unfolding answer_of
 has_accepted p bytes r c a =
     let q : c.refusal ≡ nothing = checks_unique (lines p) c.of_listing (accepted_checks (lines p) (has_back (lines p) bytes a)) in
-    c.answer ∙ ap answer_of q
+    is_ok r tt (c.answer ∙ ap answer_of q)
 
 -- the plan of an accepted listing meets none of 2 to 9, and what it states is the one thing that it can state
-accepted_sound_of : (p : Plan) (bytes : List ℕ) → calls.CheckListing p bytes checked.Accepted → (s : Result) → States (lines p) bytes s →
+accepted_sound_of : (p : Plan) (bytes : List ℕ) → calls.CheckListing p bytes (Ok tt) → (s : Result) → States (lines p) bytes s →
     Sound (lines p) (entry_words s.entries) s.delay
 unfolding check
 accepted_sound_of p bytes c s m =
-    let a = accepted_has p bytes checked.Accepted (check_listing_says c) refl in
+    let a = accepted_has p bytes (Ok tt) (check_listing_says c) refl in
     let fine : plan_refusal (lines p) ≡ nothing = (neither (plan_refusal (lines p)) _ a.sound).0 in
     let q : a.stated ≡ s = states_unique (lines p) fine a.states m in
     subst (λ (z : Result). Sound (lines p) (entry_words z.entries) z.delay) q a.sound
@@ -162,11 +163,11 @@ written_listing text out out-now count o w =
     subst (λ (z : List ℕ). ChecksTexts text z nothing) (sym b)
     (first_texts text (plan_listing o.plan) (of_text o.plan nothing o.means o.short (checks_first o.plan (plan_listing o.plan) o.checks)))
 
-planned_accepted : (text out out-now : List ℕ) (count : ℕ) → calls.ListPlan text out out-now (listed.Wrote count) →
+planned_accepted : (text out out-now : List ℕ) (count : ℕ) → calls.ListPlan text out out-now (Ok count) →
     (answer : ℕ) → calls.CCheckListing text (take count out-now) answer → answer ≡ 0
 planned_accepted text out out-now count c answer k =
     let x = text_some text (λ p. plan_sentences p ++ listing_sentences p (length out)) in
-    let q = none_applies (demand_one.listing_plan text out out-now (listed.Wrote count) c) (λ n e. absurd (let z : ◌≡◌ {A = ℕ} 0 1 = cc in omega arith)) x.0 x.1 in
+    let q = none_applies (demand_one.listing_plan text out out-now (Ok count) c) (λ n e. absurd (let z : ◌≡◌ {A = ℕ} 0 1 = cc in omega arith)) x.0 x.1 in
     texts_zero text (take count out-now) answer (c_check_listing_says k)
     (written_listing text out out-now count (own_of text (length out) x.0 x.1 q) (demand_two.listed text out out-now count c))
 
@@ -211,15 +212,15 @@ same_listing : (p : Lines) (bytes : List ℕ) (s : Result) → States p bytes s 
 unfolding words_listing
 same_listing p bytes s m passed e = rw (entries_back s.entries, frames_back s.frames, e) m.prints
 
-written_whole : (bytes out out-now : List ℕ) (r : Listed) → r ≡ listing-answer.answer_of (listing-answer.written_of (length out) bytes) →
-    out-now ≡ bytes_after (listing-answer.written_of (length out) bytes) out → length bytes ≤ length out → (r ≡ listed.Wrote (length bytes)) × (out-now ≡ front bytes out)
+written_whole : (bytes out out-now : List ℕ) (r : Outcome ℕ) → numbered r ≡ writer.answer_of (listing-answer.written_of (length out) bytes) →
+    out-now ≡ bytes_after (listing-answer.written_of (length out) bytes) out → length bytes ≤ length out → (r ≡ Ok (length bytes)) × (out-now ≡ front bytes out)
 unfolding listing-answer.written_of fitting unless_refused bytes_after
 written_whole bytes out out-now r e b l =
     let q : ltb (length out) (length bytes) ≡ false = le-ltb (length out) (length bytes) l in
-    (e ∙ rw q, b ∙ rw q)
+    (is_ok r (length bytes) (e ∙ rw q), b ∙ rw q)
 
 -- an accepted table, printed
-module _ (p : Plan) (table : List ℕ) (delay : ℕ) (c : calls.CheckTable p table delay checked.Accepted) (h : CanBeListed (lines p) table delay) where
+module _ (p : Plan) (table : List ℕ) (delay : ℕ) (c : calls.CheckTable p table delay (Ok tt)) (h : CanBeListed (lines p) table delay) where
   sound : Sound (lines p) table delay
   sound = (accepted_sound p table delay).0 (sym (check_table_says c))
 
@@ -238,7 +239,7 @@ module _ (p : Plan) (table : List ℕ) (delay : ℕ) (c : calls.CheckTable p tab
       let q : given ≡ s = states_unique (lines p) fine given_states m in
       (ap (λ (z : Result). entry_words z.entries) (sym q) ∙ words_back table ((sound_iff (lines p) table delay).0 sound).1, ap (λ (z : Result). z.delay) (sym q))
 
-  listed_accepted : (r : Checked) → calls.CheckListing p (listing_of (lines p) table delay) r → r ≡ checked.Accepted
+  listed_accepted : (r : Outcome (Unit {0})) → calls.CheckListing p (listing_of (lines p) table delay) r → r ≡ Ok tt
   listed_accepted r k =
       has_accepted p (listing_of (lines p) table delay) r (check_listing_says k)
       (record {
@@ -258,17 +259,17 @@ point_2 =
           (let k = c_check_listing_says c in
           (λ z. accepted_for text bytes nothing (none_found text bytes answer k z) refl, λ a. texts_zero text bytes answer k (for_texts text bytes a)));
       accepted_as_words = λ p bytes c s m r k.
-          check_table_says k ∙ (accepted_sound p (entry_words s.entries) s.delay).1 (accepted_sound_of p bytes c s m);
+          is_ok r tt (check_table_says k ∙ (accepted_sound p (entry_words s.entries) s.delay).1 (accepted_sound_of p bytes c s m));
       runs_right = λ p bytes c s m answers keeps.
           sound_runs_right (lines p) (entry_words s.entries) s.delay (asked answers) (accepted_sound_of p bytes c s m)
-          (λ n t h v from a b d e f. ap means (lookup_says (keeps n t h v from a b d e f)) ∙ means_back (lookup (lines p) (entry_words s.entries) n t h v from));
+          (λ n t h v from a b d e f. means_back (answers n t h v from) (lookup (lines p) (entry_words s.entries) n t h v from) (lookup_says (keeps n t h v from a b d e f)));
       planned_accepted = planned_accepted;
       c_planned_accepted = c_planned_accepted;
       printed_accepted = printed_accepted;
       printed_again = λ p bytes s m out out-now r passed e c l.
           (let w = write_listing_says c in
           let q = same_listing (lines p) bytes s m passed e in
-          written_whole bytes out out-now r (w.0 ∙ ap (λ (z : List ℕ). listing-answer.answer_of (listing-answer.written_of (length out) z)) q)
+          written_whole bytes out out-now r (w.0 ∙ ap (λ (z : List ℕ). writer.answer_of (listing-answer.written_of (length out) z)) q)
           (w.1 ∙ ap (λ (z : List ℕ). bytes_after (listing-answer.written_of (length out) z) out) q) l);
       read_again = λ p table delay c h s m. read_again p table delay c h s m;
       listed_accepted = λ p table delay c h r k. listed_accepted p table delay c h r k;

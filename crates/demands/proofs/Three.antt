@@ -1,5 +1,6 @@
 -- Demand 3 as a theorem over the contracts of the functions that are called: see specs/Three.antt.
 -- Assumes nothing.
+use Rattle.std.specs.Prelude.{Option, None, Some, Result, Ok, Err}
 use Prim.Native.Nat.{ℕ, ◌*◌, ◌≤◌, ◌<◌}
 use mathlib.Core.Path.{◌≡◌, refl, sym, ap, subst, ◌∙◌}
 use mathlib.Core.List.{List, ◌++◌}
@@ -17,18 +18,17 @@ use Rattle.model.specs.Firmware.{words_of, found_number, found_in}
 use Rattle.model.specs.Demand.{RunsRight}
 use Rattle.text_grammar.proofs.Whole.{means_unique}
 use Rattle.laws.proofs.Demand.{sound_runs_right}
+use Rattle.refusals.specs.Numbers.{numbered}
+use Rattle.refusals.proofs.Numbered.{is_ok}
 use Rattle.plan.specs.declared.Plan.{Plan}
 use Rattle.plan.specs.Memory.{lines}
 use Rattle.planner_table.specs.declared.Made.{Made}
-use Rattle.planner_table.specs.declared.Planned.TheVariants as planned
-use Rattle.checker_table.specs.declared.verdict.Checked.{Checked}
-use Rattle.checker_table.specs.declared.verdict.Checked.TheVariants.{Accepted}
 use Rattle.checker_table.specs.Verdict.{answer_of}
 use Rattle.checker_table.proofs.AcceptedSound.{accepted_sound}
 use Rattle.agreement.proofs.Agreement.{planned_accepted}
 use Rattle.kernel.specs.Finding.{found_of}
 use Rattle.c_check.specs.Checks.{Checks}
-use Rattle.demands.specs.Calls.{PlanTable, CheckTable}
+use Rattle.demands.specs.Calls.{Outcome, PlanTable, CheckTable}
 use Rattle.demands.specs.Kernel.{means, asked, Numbers, ByCLookup, number_means, asked_numbers}
 use Rattle.demands.specs.Sentences.{Sentence, first, plan_sentences, table_sentences, FirstOfText, exceeds, not_of_the_form, of_lines}
 use Rattle.demands.specs.Three.{SoundFor, Demand3}
@@ -40,10 +40,23 @@ use Rattle.demands.proofs.PlannedC.{c_planned_accepted, c_checked_once}
 use Rattle.demands.proofs.Contracts.{plan_table_says, check_table_says, lookup_says, c_plan_table_says, c_check_table_says, c_lookup_says}
 
 -- what was found, in memory and as a number
-pub means_back : (f : Found) → means (found_of f) ≡ f
-means_back (entry i) = refl
-means_back none = refl
-means_back (refusal n) = refl
+abbrev named : Result (Option ℕ) ℕ → Found
+named (Ok (Some i)) = entry i
+named (Ok None) = none
+named (Err n) = refusal n
+
+named_means : (r : Outcome (Option ℕ)) → named (numbered r) ≡ means r
+named_means (Ok (Some i)) = refl
+named_means (Ok None) = refl
+named_means (Err k) = refl
+
+named_back : (f : Found) → named (found_of f) ≡ f
+named_back (entry i) = refl
+named_back none = refl
+named_back (refusal n) = refl
+
+pub means_back : (r : Outcome (Option ℕ)) (f : Found) → numbered r ≡ found_of f → means r ≡ f
+means_back r f e = sym (named_means r) ∙ ap named e ∙ named_back f
 
 means_found : (f : Found) (count : ℕ) → Finds f 0 count → 20 * count < 18446744073709551616 → number_means (found_number f) ≡ f
 unfolding number_means found_number
@@ -54,14 +67,14 @@ means_found f count (finds_one k q l i) few =
 
 -- in memory
 module _ (p : Plan) (table : List ℕ) (delay : ℕ) where
-  is_sound : CheckTable p table delay Accepted → Sound (lines p) table delay
+  is_sound : CheckTable p table delay (Ok tt) → Sound (lines p) table delay
   is_sound c = (accepted_sound p table delay).0 (sym (check_table_says c))
 
-made_accepted : (p : Plan) (table frames passed table-now frames-now passed-now : List ℕ) (m : Made) → PlanTable p table frames passed table-now frames-now passed-now (planned.Made m) → (r : Checked) →
-    CheckTable p (take m.words table-now) m.delay r → r ≡ Accepted
+made_accepted : (p : Plan) (table frames passed table-now frames-now passed-now : List ℕ) (m : Made) → PlanTable p table frames passed table-now frames-now passed-now (Ok m) → (r : Outcome (Unit {0})) →
+    CheckTable p (take m.words table-now) m.delay r → r ≡ Ok tt
 made_accepted p table frames passed table-now frames-now passed-now m c r k =
     let h = plan_table_says c in
-    check_table_says k ∙ ap (λ (z : List ℕ). answer_of (check (lines p) (take m.words z) m.delay)) h.1 ∙ planned_accepted p table frames m h.0
+    is_ok r tt (check_table_says k ∙ ap (λ (z : List ℕ). answer_of (check (lines p) (take m.words z) m.delay)) h.1 ∙ planned_accepted p table frames m h.0)
 
 -- from C: the sentences on a table, for the lines that a text means
 abbrev on : List ℕ → ℕ → Lines → List Sentence
@@ -109,11 +122,11 @@ pub demand_three : Demand3
 demand_three =
     record {
       accepts = λ p table delay r c.
-          (λ e. (accepted_sound p table delay).0 (sym (check_table_says c) ∙ e), λ s. check_table_says c ∙ (accepted_sound p table delay).1 s);
+          (λ e. (accepted_sound p table delay).0 (sym (check_table_says c) ∙ ap numbered e), λ s. is_ok r tt (check_table_says c ∙ (accepted_sound p table delay).1 s));
       planned_accepted = made_accepted;
       runs_right = λ p table delay c answers keeps.
           sound_runs_right (lines p) table delay (asked answers) (is_sound p table delay c)
-          (λ n t h v from a b d e f. ap means (lookup_says (keeps n t h v from a b d e f)) ∙ means_back (lookup (lines p) table n t h v from));
+          (λ n t h v from a b d e f. means_back (answers n t h v from) (lookup (lines p) table n t h v from) (lookup_says (keeps n t h v from a b d e f)));
       c_accepts = λ text table delay answer c. (zero_sound text table delay answer (c_check_table_says c), sound_zero text table delay answer (c_check_table_says c));
       c_planned_accepted = λ text table frames totals table-now frames-now totals-now count c not l answer k.
           c_checked_once text _ _ answer 0 (c_check_table_says k)

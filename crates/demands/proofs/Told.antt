@@ -1,7 +1,8 @@
 -- Each answer is told by the refusal that applies first: the answers in memory, and the numbers of the C functions.
 -- Assumes nothing.
+use Rattle.std.specs.Prelude.{Ok, Err}
 use Prim.Native.Nat.{ℕ, ◌*◌, ◌/◌, ◌≤◌}
-use mathlib.Core.Path.{◌≡◌, refl, subst}
+use mathlib.Core.Path.{◌≡◌, refl, sym, ap, subst}
 use mathlib.Core.Bool.{Bool, true, false, ◌||◌}
 use mathlib.Core.List.{List}
 use native.Mathlib.Omega.{arith}
@@ -9,77 +10,57 @@ use borrow.Author.Tests.{ltb-false}
 use lib.Dec.{ltb}
 use lib.ListN.{length}
 use Rattle.limits.specs.Limits.{LASTREFUSAL}
+use Rattle.refusals.specs.Numbers.{number_of, numbered}
+use Rattle.refusals.proofs.Numbered.{is_ok}
 use Rattle.model.specs.Plan.{Lines}
 use Rattle.model.specs.Refusals.{nothing, refused, sentence, plan_refusal}
 use Rattle.model.specs.Refusals as m
-use Rattle.model.specs.Text.{Means, reads, not_read, after_refusal, unless_refused, bytes_after}
+use Rattle.model.specs.Text.{Means, reads, not_read, unless_refused, bytes_after}
 use Rattle.model.specs.Table.{Result, result, answered, table_after, frames_after, counts_after, entry_words, frame_words}
 use Rattle.model.specs.Listing.{plan_listing, listing_refusal}
 use Rattle.program.proofs.Room.{listing_most}
-use Rattle.plan.specs.Memory.{lines, empty_plan}
-use Rattle.plan_refusals.specs.declared.sentences.Refusal.{Refusal}
-use Rattle.plan_refusals.specs.declared.sentences.Refusal.TheVariants as refusal
-use Rattle.plan_refusals.specs.Answer.{refusal_of}
-use Rattle.text_reader.specs.declared.reader.Read.{Read}
-use Rattle.text_reader.specs.Answer.{reading_of, Emptied}
-use Rattle.text_writer.specs.declared.writer.Written.{Written}
-use Rattle.text_writer.specs.declared.writer.Written.TheVariants as written
-use Rattle.text_writer.specs.Answer as writer
+use Rattle.plan.specs.declared.Plan.{Plan}
+use Rattle.plan.specs.Memory.{lines}
+use Rattle.text_reader.specs.Answer.{reading_of}
+use Rattle.text_lines.specs.Answer as writer
 use Rattle.planner_table.specs.declared.Made.{Made}
-use Rattle.planner_table.specs.declared.Planned.{Planned}
-use Rattle.planner_table.specs.declared.Planned.TheVariants as planned
 use Rattle.planner_table.specs.Planner as planner
-use Rattle.listing.specs.declared.writer.Listed.{Listed}
-use Rattle.listing.specs.declared.writer.Listed.TheVariants as listed
-use Rattle.listing.specs.Answer as listing
-use Rattle.checker_table.specs.declared.verdict.Checked.{Checked}
-use Rattle.checker_table.specs.declared.verdict.Checked.TheVariants as checked
 use Rattle.checker_table.specs.Verdict as checker
 use Rattle.c_words.specs.Numbers.{written_number}
 use Rattle.c_interface.specs.Tables.{table_number, Puts}
 use Rattle.c_plan.specs.Filled.{table_bytes_after, frame_bytes_after, totals_after}
+use Rattle.demands.specs.Calls.{Outcome}
 use Rattle.demands.specs.Sentences.{InNumber}
 use Rattle.demands.proofs.Firsts.{Told, number_refused, number_result}
 
 -- the reader's answer
-pub refusal_read : (q : Refusal) (l : Lines) (n : ℕ) → not_read n ≡ after_refusal (refusal_of q) l → q ≡ refusal.Refused n
-unfolding after_refusal
-refusal_read refusal.Nothing l n e = absurd (let z : ◌≡◌ {A = ℕ} 0 1 = cc in omega arith)
-refusal_read (refusal.Refused k) l n e = cc
+pub plan_read : (r : Outcome Plan) (p : Lines) → reads p ≡ reading_of r → (q : Plan) × (r ≡ Ok q) × (lines q ≡ p)
+plan_read (Ok q) p e = (q, refl, cc)
+plan_read (Err k) p e = absurd (let z : ◌≡◌ {A = ℕ} 0 1 = cc in omega arith)
 
-pub lines_read : (q : Refusal) (l p : Lines) → reads p ≡ after_refusal (refusal_of q) l → (q ≡ refusal.Nothing) × (p ≡ l)
-unfolding after_refusal
-lines_read refusal.Nothing l p e = (refl, cc)
-lines_read (refusal.Refused k) l p e = absurd (let z : ◌≡◌ {A = ℕ} 0 1 = cc in omega arith)
+number_read : (r : Outcome Plan) (n : ℕ) → not_read n ≡ reading_of r → numbered r ≡ Err n
+number_read (Ok q) n e = absurd (let z : ◌≡◌ {A = ℕ} 0 1 = cc in omega arith)
+number_read (Err k) n e = let m : n ≡ number_of k = cc in ap Err (sym m)
 
-module _ (text : List ℕ) (r : Read) where
+module _ (text : List ℕ) (r : Outcome Plan) where
   pub told_read : (p : Lines) → Means text p → reads p ≡ reading_of r →
-      Told (λ n. r.refusal ≡ refusal.Refused n) (r.plan ≡ empty_plan) ((r.refusal ≡ refusal.Nothing) × Means text (lines r.plan)) nothing
-  unfolding reading_of
+      Told (λ n. numbered r ≡ Err n) (Unit {0}) ((q : Plan) × (r ≡ Ok q) × Means text (lines q)) nothing
   told_read p m e =
-      let q = lines_read r.refusal (lines r.plan) p e in
-      ((λ n f. absurd (let g = q.0 in let z : ◌≡◌ {A = ℕ} 0 1 = cc in omega arith)), (q.0, subst (Means text) q.1 m))
+      let q = plan_read r p e in
+      let g : numbered r ≡ Ok q.0 = ap numbered q.1 in
+      ((λ n f. absurd (let z : ◌≡◌ {A = ℕ} 0 1 = cc in omega arith)), (q.0, q.1, subst (Means text) (sym q.2) m))
 
-  pub told_not_read : (n : ℕ) → Emptied r → not_read n ≡ reading_of r →
-      Told (λ n. r.refusal ≡ refusal.Refused n) (r.plan ≡ empty_plan) ((r.refusal ≡ refusal.Nothing) × Means text (lines r.plan)) (refused n)
-  unfolding reading_of Emptied
-  told_not_read n empty e =
-      let q = refusal_read r.refusal (lines r.plan) n e in
-      (q, (λ k f. cc), empty n q)
+  pub told_not_read : (n : ℕ) → not_read n ≡ reading_of r →
+      Told (λ n. numbered r ≡ Err n) (Unit {0}) ((q : Plan) × (r ≡ Ok q) × Means text (lines q)) (refused n)
+  told_not_read n e = let q = number_read r n e in (q, (λ k f. cc), tt)
 
--- the plan writer's answer, and the listing's
+-- the answer of a text put into lent bytes
 module _ (bytes out out-now : List ℕ) where
-  pub told_written : (x : m.Refusal) (r : Written) → r ≡ writer.answer_of (unless_refused x bytes) → out-now ≡ bytes_after (unless_refused x bytes) out →
-      Told (λ n. r ≡ written.Refused n) (out-now ≡ out) ((n : ℕ) × (r ≡ written.Wrote n)) x
+  pub told_written : (x : m.Refusal) (r : Outcome ℕ) → numbered r ≡ writer.answer_of (unless_refused x bytes) → out-now ≡ bytes_after (unless_refused x bytes) out →
+      Told (λ n. numbered r ≡ Err n) (out-now ≡ out) ((n : ℕ) × (r ≡ Ok n)) x
   unfolding unless_refused bytes_after
-  told_written nothing r e b = ((λ n f. absurd (let z : ◌≡◌ {A = ℕ} 0 1 = cc in omega arith)), (length bytes, e))
+  told_written nothing r e b = ((λ n f. absurd (let z : ◌≡◌ {A = ℕ} 0 1 = cc in omega arith)), (length bytes, is_ok r (length bytes) e))
   told_written (refused n) r e b = (e, (λ k f. cc), b)
-
-  pub told_listed : (x : m.Refusal) (r : Listed) → r ≡ listing.answer_of (unless_refused x bytes) → out-now ≡ bytes_after (unless_refused x bytes) out →
-      Told (λ n. r ≡ listed.Refused n) (out-now ≡ out) ((n : ℕ) × (r ≡ listed.Wrote n)) x
-  unfolding unless_refused bytes_after
-  told_listed nothing r e b = ((λ n f. absurd (let z : ◌≡◌ {A = ℕ} 0 1 = cc in omega arith)), (length bytes, e))
-  told_listed (refused n) r e b = (e, (λ k f. cc), b)
 
   -- a text of few bytes put into lent bytes, as a number
   pub told_number : (b : Bool) (answer : ℕ) → ltb (length out) (length bytes) ≡ b → length bytes ≤ 16384 → answer ≡ written_number (unless_refused (sentence 10 b nothing) bytes) →
@@ -113,11 +94,11 @@ module _ (p : Lines) (fine : plan_refusal p ≡ nothing) (out out-now : List ℕ
 
 -- the planner's answer
 module _ (q : Result) (table frames passed table-now frames-now passed-now : List ℕ) where
-  pub told_planned : (x : m.Refusal) (r : Planned) → r ≡ planner.answer_of (answered x q) → table-now ≡ table_after (answered x q) table →
+  pub told_planned : (x : m.Refusal) (r : Outcome Made) → numbered r ≡ planner.answer_of (answered x q) → table-now ≡ table_after (answered x q) table →
       frames-now ≡ frames_after (answered x q) frames → passed-now ≡ counts_after (answered x q) passed →
-      Told (λ n. r ≡ planned.Refused n) ((table-now ≡ table) × (frames-now ≡ frames) × (passed-now ≡ passed)) ((m : Made) × (r ≡ planned.Made m)) x
+      Told (λ n. numbered r ≡ Err n) ((table-now ≡ table) × (frames-now ≡ frames) × (passed-now ≡ passed)) ((m : Made) × (r ≡ Ok m)) x
   unfolding answered table_after frames_after counts_after planner.answer_of
-  told_planned nothing r e t f k = ((λ n g. absurd (let z : ◌≡◌ {A = ℕ} 0 1 = cc in omega arith)), (_, e))
+  told_planned nothing r e t f k = ((λ n g. absurd (let z : ◌≡◌ {A = ℕ} 0 1 = cc in omega arith)), (_, is_ok r _ e))
   told_planned (refused n) r e t f k = (e, (λ j g. cc), (t, f, k))
 
 -- the same put into lent bytes, as a number
@@ -141,7 +122,7 @@ module _ (q : Result) (table frames totals table-now frames-now totals-now : Lis
   told_turned n l k s = number_refused Unchanged (answer ≤ length table) answer n l k s.number (s.bytes.table_bytes, s.bytes.frame_bytes, s.bytes.total_bytes)
 
 -- the checker's answer
-pub told_checked : (x : m.Refusal) (r : Checked) → r ≡ checker.answer_of x → Told (λ n. r ≡ checked.Refused n) (Unit {0}) (r ≡ checked.Accepted) x
+pub told_checked : (x : m.Refusal) (r : Outcome (Unit {0})) → numbered r ≡ checker.answer_of x → Told (λ n. numbered r ≡ Err n) (Unit {0}) (r ≡ Ok tt) x
 unfolding checker.answer_of
-told_checked nothing r e = ((λ n f. absurd (let z : ◌≡◌ {A = ℕ} 0 1 = cc in omega arith)), e)
+told_checked nothing r e = ((λ n f. absurd (let z : ◌≡◌ {A = ℕ} 0 1 = cc in omega arith)), is_ok r tt e)
 told_checked (refused n) r e = (e, (λ k f. cc), tt)

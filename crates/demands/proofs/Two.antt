@@ -1,5 +1,6 @@
 -- Demand 2 as a theorem over the contracts of the functions that are called: see specs/Two.antt.
 -- Assumes nothing.
+use Rattle.std.specs.Prelude.{Ok}
 use Prim.Native.Nat.{ℕ, ◌/◌, ◌≤◌}
 use mathlib.Core.Path.{◌≡◌, refl, sym, ap, subst, ◌∙◌}
 use mathlib.Core.List.{List}
@@ -17,23 +18,17 @@ use Rattle.laws.proofs.Good.{good}
 use Rattle.laws.proofs.Choice.{urgency_law, urgency_weights, number_weights, starts_highest, queue_ordered}
 use Rattle.text_grammar.proofs.Whole.{means_unique}
 use Rattle.text_grammar.proofs.Answers.{answers_unique}
+use Rattle.refusals.specs.Numbers.{numbered}
+use Rattle.refusals.proofs.Numbered.{is_ok}
 use Rattle.plan.specs.declared.Plan.{Plan}
 use Rattle.plan.specs.Memory.{lines}
-use Rattle.plan_refusals.specs.declared.sentences.Refusal.TheVariants as refusal
-use Rattle.plan_refusals.specs.Answer.{refusal_of}
-use Rattle.text_reader.specs.declared.reader.Read.{Read}
 use Rattle.text_reader.specs.Answer.{reading_of}
-use Rattle.text_writer.specs.declared.writer.Written.{Written}
-use Rattle.text_writer.specs.declared.writer.Written.TheVariants as written
-use Rattle.text_writer.specs.Answer as writer
+use Rattle.text_lines.specs.Answer as writer
 use Rattle.plan_refusals.proofs.Accepted.{of_read}
 use Rattle.text_writer.proofs.ReadBack.{written_is_read, read_is_written}
 use Rattle.planner_table.specs.declared.Made.{Made}
-use Rattle.planner_table.specs.declared.Planned.TheVariants as planned
 use Rattle.planner_table.specs.Planner as planner
 use Rattle.planner_table.proofs.PlannedSound.{made_fine}
-use Rattle.listing.specs.declared.writer.Listed.TheVariants as listed
-use Rattle.listing.specs.Answer as listing
 use Rattle.planner_table.proofs.Given.{WasMade, was_made}
 use Rattle.planner_table.proofs.Most.{delay_bounded}
 use Rattle.c_words.specs.Numbers.{written_number}
@@ -41,26 +36,21 @@ use Rattle.c_text.specs.Copy.{copy, Copies}
 use Rattle.c_text.specs.Listing.{Lists}
 use Rattle.c_interface.specs.Tables.{planned_of, table_number, Puts, Tables}
 use Rattle.c_plan.specs.Filled.{table_bytes_after, frame_bytes_after, totals_after}
+use Rattle.demands.specs.Calls.{Outcome}
 use Rattle.demands.specs.Sentences.{Sentence, first, bytes_sentences, room_sentences, listing_sentences, KeepsTo}
 use Rattle.demands.specs.Two.{NotRefused, Scheduled, ScheduledBytes, Plans, ListedPlan, Demand2}
 use Rattle.demands.proofs.Firsts.{plan_first, bytes_first, room_first, listing_first, plan_then, by_text}
-use Rattle.demands.proofs.Told.{lines_read}
+use Rattle.demands.proofs.Told.{plan_read}
 use Rattle.demands.proofs.OneC.{c_copying, c_listing_plan, c_planning}
 use Rattle.demands.proofs.Contracts.{read_plan_says, write_plan_says, plan_table_says, list_plan_says, print_all_says, c_copy_plan_says, c_plan_table_says, c_plan_listing_says}
 
 -- what was read is lines that the text means
-module _ (text : List ℕ) (r : Read) (told : AnswersText text (reading_of r)) (read : r.refusal ≡ refusal.Nothing) where
-  reads_lines : reading_of r ≡ reads (lines r.plan)
-  unfolding reading_of after_refusal
-  reads_lines = ap (λ x. after_refusal (refusal_of x) (lines r.plan)) read
-
-  meant : Means text (lines r.plan)
-  meant = (of_read text (reading_of r) (lines r.plan) told reads_lines).1
+meant : (text : List ℕ) (p : Plan) → AnswersText text (reading_of (Ok p)) → Means text (lines p)
+meant text p told = (of_read text (reads (lines p)) (lines p) told refl).1
 
 -- a reading of lines is theirs
-is_theirs : (r : Read) (p : Lines) → reading_of r ≡ reads p → (r.refusal ≡ refusal.Nothing) × (lines r.plan ≡ p)
-unfolding reading_of
-is_theirs r p e = let q = lines_read r.refusal (lines r.plan) p (sym e) in (q.0, sym q.1)
+is_theirs : (r : Outcome Plan) (p : Lines) → reading_of r ≡ reads p → (q : Plan) × (r ≡ Ok q) × (lines q ≡ p)
+is_theirs r p e = plan_read r p (sym e)
 
 -- lines to which no sentence applies are read from their text
 pub reads_as : (text : List ℕ) (s : Reading) (q : Lines) → AnswersText text s → Means text q → length text ≤ 16384 → plan_refusal q ≡ nothing → s ≡ reads q
@@ -68,7 +58,7 @@ unfolding after_refusal
 reads_as text s q a m l fine = answers_unique a (of_form q m l) ∙ ap (λ (x : Refusal). after_refusal x q) fine
 
 -- what the plan writer wrote
-written_back : (w : text.Written) (out out-now : List ℕ) (n : ℕ) → written.Wrote n ≡ writer.answer_of w → out-now ≡ bytes_after w out →
+written_back : (w : text.Written) (out out-now : List ℕ) (n : ℕ) → Ok n ≡ writer.answer_of w → out-now ≡ bytes_after w out →
     w ≡ wrote (take n out-now)
 unfolding bytes_after
 written_back (wrote bytes) out out-now n e b =
@@ -76,13 +66,13 @@ written_back (wrote bytes) out out-now n e b =
 written_back (not_written k) out out-now n e b = absurd (let z : ◌≡◌ {A = ℕ} 0 1 = cc in omega arith)
 
 -- what was read is written as the text
-read_written : (text : List ℕ) (r : Read) → AnswersText text (reading_of r) → r.refusal ≡ refusal.Nothing → (out out-now : List ℕ) (w : Written) →
-    length text ≤ length out → w ≡ writer.answer_of (write_plan (lines r.plan) (length out)) → out-now ≡ bytes_after (write_plan (lines r.plan) (length out)) out →
-    (w ≡ written.Wrote (length text)) × (out-now ≡ front text out)
+read_written : (text : List ℕ) (p : Plan) → AnswersText text (reading_of (Ok p)) → (out out-now : List ℕ) (w : Outcome ℕ) →
+    length text ≤ length out → numbered w ≡ writer.answer_of (write_plan (lines p) (length out)) → out-now ≡ bytes_after (write_plan (lines p) (length out)) out →
+    (w ≡ Ok (length text)) × (out-now ≡ front text out)
 unfolding bytes_after
-read_written text r a e out out-now w l q b =
-    let x = read_is_written text (lines r.plan) (length out) (subst (AnswersText text) (reads_lines text r a e) a) l in
-    (q ∙ ap writer.answer_of x, b ∙ ap (λ (z : _). bytes_after z out) x)
+read_written text p a out out-now w l q b =
+    let x = read_is_written text (lines p) (length out) a l in
+    (is_ok w (length text) (q ∙ ap writer.answer_of x), b ∙ ap (λ (z : _). bytes_after z out) x)
 
 -- where the answer is no refusal none applies
 pub none_applies : {Is-first : Refusal → Type 0} {Refused-with : ℕ → Type 0} {Unchanged Result : Type 0} → KeepsTo Is-first Refused-with Unchanged Result →
@@ -108,7 +98,7 @@ module _ (text out out-now : List ℕ) (answer : ℕ) where
       x.2 (none_applies (c_copying text out out-now answer c) not x.0 x.1) c.number c.bytes
 
 scheduled : (p : Plan) (table frames passed table-now frames-now passed-now : List ℕ) (m : Made) →
-    planned.Made m ≡ planner.answer_of (plan_answer (lines p) (length table) (length frames)) →
+    Ok m ≡ planner.answer_of (plan_answer (lines p) (length table) (length frames)) →
     table-now ≡ table_after (plan_answer (lines p) (length table) (length frames)) table →
     frames-now ≡ frames_after (plan_answer (lines p) (length table) (length frames)) frames →
     passed-now ≡ counts_after (plan_answer (lines p) (length table) (length frames)) passed →
@@ -168,14 +158,14 @@ prints_plan text s p a h =
     ap program_prints q ∙ ap (λ (y : Refusal). printed p (answered y (result p))) x
 
 -- a text that was put into lent bytes
-was_put : (bytes out out-now : List ℕ) (x : Refusal) (n : ℕ) → listed.Wrote n ≡ listing.answer_of (unless_refused x bytes) → out-now ≡ bytes_after (unless_refused x bytes) out →
+was_put : (bytes out out-now : List ℕ) (x : Refusal) (n : ℕ) → Ok n ≡ writer.answer_of (unless_refused x bytes) → out-now ≡ bytes_after (unless_refused x bytes) out →
     (n ≡ length bytes) × (out-now ≡ front bytes out)
 unfolding unless_refused bytes_after
 was_put bytes out out-now nothing n e b = (cc, b)
 was_put bytes out out-now (refused k) n e b = absurd (let z : ◌≡◌ {A = ℕ} 0 1 = cc in omega arith)
 
 module _ (text out out-now : List ℕ) where
-  was_listed : (n : ℕ) (s : Reading) → AnswersText text s → listed.Wrote n ≡ listing.answer_of (list_reading s (length out)) →
+  was_listed : (n : ℕ) (s : Reading) → AnswersText text s → Ok n ≡ writer.answer_of (list_reading s (length out)) →
       out-now ≡ bytes_after (list_reading s (length out)) out → ListedPlan text out out-now n
   unfolding list_reading list_plan
   was_listed n (reads p) a e b =
@@ -202,15 +192,15 @@ module _ (text out out-now : List ℕ) where
 pub demand_two : Demand2
 demand_two =
     record {
-      meaning = λ text r c e. (meant text r (read_plan_says c).0 e).prints;
-      only_meaning = λ text r c e q m. means_unique m (meant text r (read_plan_says c).0 e);
-      is_read = λ text r c q m l h. is_theirs r q (reads_as text (reading_of r) q (read_plan_says c).0 m l (sym (plan_first q) ∙ h));
-      one_text = λ text other r s a b e f same. sym (meant text r (read_plan_says a).0 e).prints ∙ ap print same ∙ (meant other s (read_plan_says b).0 f).prints;
+      meaning = λ text p c. (meant text p (read_plan_says c)).prints;
+      only_meaning = λ text p c q m. means_unique m (meant text p (read_plan_says c));
+      is_read = λ text r c q m l h. is_theirs r q (reads_as text (reading_of r) q (read_plan_says c) m l (sym (plan_first q) ∙ h));
+      one_text = λ text other p q a b same. sym (meant text p (read_plan_says a)).prints ∙ ap print same ∙ (meant other q (read_plan_says b)).prints;
       written_read = λ p out out-now n c r a.
           (let h = write_plan_says c in
           is_theirs r (lines p)
-          (written_is_read (lines p) (length out) (take n out-now) (reading_of r) (written_back (write_plan (lines p) (length out)) out out-now n h.0 h.1) (read_plan_says a).0));
-      read_written = λ text r a e out out-now w l c. (let h = write_plan_says c in read_written text r (read_plan_says a).0 e out out-now w l h.0 h.1);
+          (written_is_read (lines p) (length out) (take n out-now) (reading_of r) (written_back (write_plan (lines p) (length out)) out out-now n h.0 h.1) (read_plan_says a)));
+      read_written = λ text p a out out-now w l c. (let h = write_plan_says c in read_written text p (read_plan_says a) out out-now w l h.0 h.1);
       c_copied = λ text out out-now answer c not. c_copied text out out-now answer (c_copy_plan_says c) not;
       scheduled = λ p table frames passed table-now frames-now passed-now m c.
           (let h = plan_table_says c in scheduled p table frames passed table-now frames-now passed-now m h.0 h.1 h.2 h.3);

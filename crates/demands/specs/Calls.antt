@@ -4,18 +4,13 @@
 -- each function keeps its contract (`CodeKeeps`), and no contract asks anything of a caller (`AsksNothing`). The
 -- demands are stated over these relations.
 -- Assumes nothing.
-use Rattle.std.specs.Prelude.{ℕ, List}
+use Rattle.std.specs.Prelude.{ℕ, List, Option, Result}
 use borrow.Fn.Kinds.{ParamKind, ResultKind, Dens, res_t, ended_of, In, Out}
 use contract.Lifetimes.{Lfts}
 use denote.Triple.Clauses.{AtExit}
 use Rattle.plan.specs.declared.Plan.{Plan}
-use Rattle.plan_refusals.specs.declared.sentences.Refusal.{Refusal}
-use Rattle.text_reader.specs.declared.reader.Read.{Read}
-use Rattle.text_writer.specs.declared.writer.Written.{Written}
-use Rattle.planner_table.specs.declared.Planned.{Planned}
-use Rattle.listing.specs.declared.writer.Listed.{Listed}
-use Rattle.checker_table.specs.declared.verdict.Checked.{Checked}
-use Rattle.kernel.specs.declared.search.Found.{Found}
+use Rattle.refusals.specs.declared.Refusal.{Refusal}
+use Rattle.planner_table.specs.declared.Made.{Made}
 use Rattle.plan.proofs.empty.Statement as empty-statement
 use Rattle.plan.proofs.empty.Kinds as empty-kinds
 use Rattle.plan.proofs.empty.Reads as empty-reads
@@ -92,6 +87,10 @@ pub record Call {n : ℕ} (ps : List (ParamKind n)) (r : ResultKind n) (Learnt :
   pub ended : AtExit (ended_of n ps r) lifetimes
   pub learnt : Learnt lifetimes handed result ended
 
+-- what a function answers: a result, or the refusal that applies
+abbrev pub Outcome : Type 0 → Type 0
+Outcome A = Result A Refusal
+
 -- whatever values a call is handed, what `requires` asks of them holds
 abbrev pub Total : {n : ℕ} (ps : List (ParamKind n)) → In n ps → Type 0
 Total {n} ps Asked = (κs : Lfts n) (a : Dens κs ps) → Asked κs a
@@ -102,40 +101,40 @@ pub data Empty : (plan : Plan) → Type 0 where
       Empty c.result
 
 -- `plan_refusals::refuse`: a plan, and the refusal found
-pub data Refuse : (plan : Plan) → (answer : Refusal) → Type 0 where
+pub data Refuse : (plan : Plan) → (answer : Outcome (Unit {0})) → Type 0 where
   refuse : (c : Call refuse-kinds.ps refuse-kinds.r refuse-reads.Learnt) →
       Refuse c.handed.0 c.result
 
 -- `text_reader::read_plan`: a text, and what it is read as
-pub data ReadPlan : (text : List ℕ) → (answer : Read) → Type 0 where
+pub data ReadPlan : (text : List ℕ) → (answer : Outcome Plan) → Type 0 where
   read_plan : (c : Call read-plan-kinds.ps read-plan-kinds.r read-plan-reads.Learnt) →
       ReadPlan c.handed.0.now c.result
 
 -- `text_writer::write_plan`: a plan and the bytes lent, those bytes afterwards, and the answer
-pub data WritePlan : (plan : Plan) → (out out-now : List ℕ) → (answer : Written) → Type 0 where
+pub data WritePlan : (plan : Plan) → (out out-now : List ℕ) → (answer : Outcome ℕ) → Type 0 where
   write_plan : (c : Call write-plan-kinds.ps write-plan-kinds.r write-plan-reads.Learnt) →
       WritePlan c.handed.0 c.handed.1.0.now c.ended.1.0.now c.result
 
 -- `planner::plan_table`: a plan and the words lent for table, frame list and the counts of the nodes, those words
 -- afterwards, and the answer
-pub data PlanTable : (plan : Plan) → (table frames passed table-now frames-now passed-now : List ℕ) → (answer : Planned) → Type 0 where
+pub data PlanTable : (plan : Plan) → (table frames passed table-now frames-now passed-now : List ℕ) → (answer : Outcome Made) → Type 0 where
   plan_table : (c : Call plan-table-kinds.ps plan-table-kinds.r plan-table-reads.Learnt) →
       PlanTable c.handed.0 c.handed.1.0.now c.handed.1.1.0.now c.handed.1.1.1.0.now c.ended.1.0.now
       c.ended.1.1.0.now c.ended.1.1.1.0.now c.result
 
 -- `listing::write_listing`: a plan, delay, counts of the nodes, table, frame list and the bytes lent, those bytes
 -- afterwards, and the answer
-pub data WriteListing : (plan : Plan) → (delay : ℕ) → (passed table frames out out-now : List ℕ) → (answer : Listed) → Type 0 where
+pub data WriteListing : (plan : Plan) → (delay : ℕ) → (passed table frames out out-now : List ℕ) → (answer : Outcome ℕ) → Type 0 where
   write_listing : (c : Call write-listing-kinds.ps write-listing-kinds.r write-listing-reads.Learnt) →
       WriteListing c.handed.0 c.handed.1.0 c.handed.1.1.0.now c.handed.1.1.1.0.now c.handed.1.1.1.1.0.now c.handed.1.1.1.1.1.0.now c.ended.1.1.1.1.1.0.now c.result
 
 -- `listing::write_refusal`: a number and the bytes lent, those bytes afterwards, and the answer
-pub data WriteRefusal : (number : ℕ) → (out out-now : List ℕ) → (answer : Listed) → Type 0 where
+pub data WriteRefusal : (number : ℕ) → (out out-now : List ℕ) → (answer : Outcome ℕ) → Type 0 where
   write_refusal : (c : Call write-refusal-kinds.ps write-refusal-kinds.r write-refusal-reads.Learnt) →
       WriteRefusal c.handed.0 c.handed.1.0.now c.ended.1.0.now c.result
 
 -- `program::list_plan`: a text and the bytes lent, those bytes afterwards, and the answer
-pub data ListPlan : (text out out-now : List ℕ) → (answer : Listed) → Type 0 where
+pub data ListPlan : (text out out-now : List ℕ) → (answer : Outcome ℕ) → Type 0 where
   list_plan : (c : Call list-plan-kinds.ps list-plan-kinds.r list-plan-reads.Learnt) →
       ListPlan c.handed.0.now c.handed.1.0.now c.ended.1.0.now c.result
 
@@ -145,12 +144,12 @@ pub data PrintAll : (text out out-now : List ℕ) → (count : ℕ) → Type 0 w
       PrintAll c.handed.0.now c.handed.1.0.now c.ended.1.0.now c.result
 
 -- `checker::check_table`: a plan, a table and the delay stated for it, and the answer
-pub data CheckTable : (plan : Plan) → (table : List ℕ) → (delay : ℕ) → (answer : Checked) → Type 0 where
+pub data CheckTable : (plan : Plan) → (table : List ℕ) → (delay : ℕ) → (answer : Outcome (Unit {0})) → Type 0 where
   check_table : (c : Call check-table-kinds.ps check-table-kinds.r check-table-reads.Learnt) →
       CheckTable c.handed.0 c.handed.1.0.now c.handed.1.1.0 c.result
 
 -- `checker::check_listing`: a plan and a listing text, and the answer
-pub data CheckListing : (plan : Plan) → (listing : List ℕ) → (answer : Checked) → Type 0 where
+pub data CheckListing : (plan : Plan) → (listing : List ℕ) → (answer : Outcome (Unit {0})) → Type 0 where
   check_listing : (c : Call check-listing-kinds.ps check-listing-kinds.r check-listing-reads.Learnt) →
       CheckListing c.handed.0 c.handed.1.0.now c.result
 
@@ -165,7 +164,7 @@ pub data RowEntries : (place : ℕ × ℕ) → (table : List ℕ) → (row : ℕ
       RowEntries c.handed.0.ref_ptr c.handed.0.now c.handed.1.0 c.result.ref_ptr c.result.now
 
 -- `kernel::lookup`: a plan, a table, node, tick, heard bits, values and the entry to begin at, and the answer
-pub data Lookup : (plan : Plan) → (table : List ℕ) → (node tick heard values from : ℕ) → (answer : Found) → Type 0 where
+pub data Lookup : (plan : Plan) → (table : List ℕ) → (node tick heard values from : ℕ) → (answer : Outcome (Option ℕ)) → Type 0 where
   lookup : (c : Call lookup-kinds.ps lookup-kinds.r lookup-reads.Learnt) →
       Lookup c.handed.0 c.handed.1.0.now c.handed.1.1.0 c.handed.1.1.1.0 c.handed.1.1.1.1.0 c.handed.1.1.1.1.1.0 c.handed.1.1.1.1.1.1.0 c.result
 

@@ -1,6 +1,6 @@
 -- A unit's kernel: the answers that it gets from calls of the lookup, in memory and from C.
 -- Assumes nothing.
-use Rattle.std.specs.Prelude.{ℕ, ◌-◌, ◌≤◌, ◌<◌, List, eqb, ltb, length, if◌then◌else◌}
+use Rattle.std.specs.Prelude.{ℕ, ◌-◌, ◌≤◌, ◌<◌, Option, None, Some, Ok, Err, List, eqb, ltb, length, if◌then◌else◌}
 use Rattle.model.specs.Plan.{Lines}
 use Rattle.model.specs.Lookup.{entry, none, refusal}
 use Rattle.model.specs.Lookup as m
@@ -9,8 +9,8 @@ use Rattle.model.specs.Table.{entries_of}
 use Rattle.model.specs.Firmware.{words_of}
 use Rattle.plan.specs.declared.Plan.{Plan}
 use Rattle.plan.specs.Memory.{lines}
-use Rattle.kernel.specs.declared.search.Found.{Found}
-use Rattle.kernel.specs.declared.search.Found.TheVariants.{Entry, None, Refused}
+use Rattle.refusals.specs.Numbers.{number_of}
+use Rattle.demands.specs.Calls.{Outcome}
 use Rattle.demands.specs.Calls as calls
 
 -- the questions that a run of some lines with a table's words can ask: node, tick, conditions heard, their values, and
@@ -22,16 +22,16 @@ Asked p words Answered =
 
 -- answers of `kernel::lookup`, each from a call of it
 abbrev pub Answers : Type 0
-Answers = ℕ → ℕ → ℕ → ℕ → ℕ → Found
+Answers = ℕ → ℕ → ℕ → ℕ → ℕ → Outcome (Option ℕ)
 
 abbrev pub ByLookup : Plan → List ℕ → Answers → Type 0
 ByLookup p words answers = Asked (lines p) words (λ n t h v from. calls.Lookup p words n t h v from (answers n t h v from))
 
 -- what an answer means
-abbrev pub means : Found → m.Found
-means (Entry i) = entry i
-means None = none
-means (Refused n) = refusal n
+abbrev pub means : Outcome (Option ℕ) → m.Found
+means (Ok (Some i)) = entry i
+means (Ok None) = none
+means (Err r) = refusal (number_of r)
 
 abbrev pub asked : Answers → Ask
 asked answers n t h v from = means (answers n t h v from)

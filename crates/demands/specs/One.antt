@@ -2,7 +2,7 @@
 -- that applies; a refusal changes no word of any buffer." One field for each function that is called, over its calls
 -- (specs/Calls.antt).
 -- Assumes nothing.
-use Rattle.std.specs.Prelude.{ℕ, ◌+◌, ◌/◌, ◌≤◌, ◌<◌, ◌≡◌, ◌⊎◌, List, ◌++◌, length, take, drop}
+use Rattle.std.specs.Prelude.{Option, None, Some, Ok, Err, ℕ, ◌+◌, ◌/◌, ◌≤◌, ◌<◌, ◌≡◌, ◌⊎◌, List, ◌++◌, length, take, drop}
 use Rattle.lists.specs.Front.{front}
 use Rattle.model.specs.Plan.{Lines}
 use Rattle.model.specs.Refusals.{refused}
@@ -14,22 +14,11 @@ use Rattle.model.specs.ListingText.{plan_part, listing_part, check_prints}
 use Rattle.model.specs.Firmware.{words_of}
 use Rattle.plan.specs.declared.Plan.{Plan}
 use Rattle.plan.specs.Memory.{lines, empty_plan}
-use Rattle.plan_refusals.specs.declared.sentences.Refusal.{Refusal}
-use Rattle.plan_refusals.specs.declared.sentences.Refusal.TheVariants as refusal
+use Rattle.refusals.specs.Numbers.{numbered}
 use Rattle.plan_refusals.specs.Answer.{refusal_of}
-use Rattle.text_reader.specs.declared.reader.Read.{Read}
-use Rattle.text_writer.specs.declared.writer.Written.{Written}
-use Rattle.text_writer.specs.declared.writer.Written.TheVariants as written
 use Rattle.planner_table.specs.declared.Made.{Made}
-use Rattle.planner_table.specs.declared.Planned.{Planned}
-use Rattle.planner_table.specs.declared.Planned.TheVariants as planned
-use Rattle.listing.specs.declared.writer.Listed.{Listed}
-use Rattle.listing.specs.declared.writer.Listed.TheVariants as listed
-use Rattle.checker_table.specs.declared.verdict.Checked.{Checked}
-use Rattle.checker_table.specs.declared.verdict.Checked.TheVariants as checked
 use Rattle.kernel_rows.specs.Part.{words_on}
-use Rattle.kernel.specs.declared.search.Found.{Found}
-use Rattle.kernel.specs.declared.search.Found.TheVariants as found
+use Rattle.demands.specs.Calls.{Outcome}
 use Rattle.demands.specs.Calls as calls
 use Rattle.demands.specs.Sentences.{
   Sentence,
@@ -66,55 +55,55 @@ pub record Demand1 : Type 2 where
   -- `plan::empty`: no sentence is tried
   pub starting : (p : Plan) → calls.Empty p → p ≡ empty_plan
   -- `plan_refusals::refuse`
-  pub refusing : (p : Plan) (r : Refusal) → calls.Refuse p r → FirstOf (plan_sentences (lines p)) (refusal_of r)
-  -- `text_reader::read_plan`: a refusal hands out the empty plan
-  pub reading : (text : List ℕ) (r : Read) → calls.ReadPlan text r →
-      KeepsTo (FirstOfText text plan_sentences) (λ n. r.refusal ≡ refusal.Refused n) (r.plan ≡ empty_plan)
-      ((r.refusal ≡ refusal.Nothing) × Means text (lines r.plan))
+  pub refusing : (p : Plan) (r : Outcome (Unit {0})) → calls.Refuse p r → FirstOf (plan_sentences (lines p)) (refusal_of r)
+  -- `text_reader::read_plan`: a refusal hands out no plan
+  pub reading : (text : List ℕ) (r : Outcome Plan) → calls.ReadPlan text r →
+      KeepsTo (FirstOfText text plan_sentences) (λ n. numbered r ≡ Err n) (Unit {0})
+      ((p : Plan) × (r ≡ Ok p) × Means text (lines p))
   -- `text_writer::write_plan`
-  pub writing : (p : Plan) (out out-now : List ℕ) (r : Written) → calls.WritePlan p out out-now r →
-      KeepsTo (FirstOf (plan_sentences (lines p) ++ bytes_sentences (print (lines p)) (length out))) (λ n. r ≡ written.Refused n)
-      (out-now ≡ out) ((n : ℕ) × (r ≡ written.Wrote n))
+  pub writing : (p : Plan) (out out-now : List ℕ) (r : Outcome ℕ) → calls.WritePlan p out out-now r →
+      KeepsTo (FirstOf (plan_sentences (lines p) ++ bytes_sentences (print (lines p)) (length out))) (λ n. numbered r ≡ Err n)
+      (out-now ≡ out) ((n : ℕ) × (r ≡ Ok n))
   -- `planner::plan_table`
-  pub planning : (p : Plan) (table frames passed table-now frames-now passed-now : List ℕ) (r : Planned) →
+  pub planning : (p : Plan) (table frames passed table-now frames-now passed-now : List ℕ) (r : Outcome Made) →
       calls.PlanTable p table frames passed table-now frames-now passed-now r →
-      KeepsTo (FirstOf (plan_sentences (lines p) ++ room_sentences (result (lines p)) (length table) (length frames))) (λ n. r ≡ planned.Refused n)
-      ((table-now ≡ table) × (frames-now ≡ frames) × (passed-now ≡ passed)) ((m : Made) × (r ≡ planned.Made m))
+      KeepsTo (FirstOf (plan_sentences (lines p) ++ room_sentences (result (lines p)) (length table) (length frames))) (λ n. numbered r ≡ Err n)
+      ((table-now ≡ table) × (frames-now ≡ frames) × (passed-now ≡ passed)) ((m : Made) × (r ≡ Ok m))
   -- `listing::write_listing`
-  pub listing_words : (p : Plan) (delay : ℕ) (passed table frames out out-now : List ℕ) (r : Listed) →
+  pub listing_words : (p : Plan) (delay : ℕ) (passed table frames out out-now : List ℕ) (r : Outcome ℕ) →
       calls.WriteListing p delay passed table frames out out-now r →
-      KeepsTo (FirstOf (bytes_sentences (words_listing (lines p) delay passed table frames) (length out))) (λ n. r ≡ listed.Refused n)
-      (out-now ≡ out) ((n : ℕ) × (r ≡ listed.Wrote n))
+      KeepsTo (FirstOf (bytes_sentences (words_listing (lines p) delay passed table frames) (length out))) (λ n. numbered r ≡ Err n)
+      (out-now ≡ out) ((n : ℕ) × (r ≡ Ok n))
   -- `listing::write_refusal`
-  pub listing_refusal : (number : ℕ) (out out-now : List ℕ) (r : Listed) → calls.WriteRefusal number out out-now r →
-      KeepsTo (FirstOf (bytes_sentences (refused_line number) (length out))) (λ n. r ≡ listed.Refused n)
-      (out-now ≡ out) ((n : ℕ) × (r ≡ listed.Wrote n))
+  pub listing_refusal : (number : ℕ) (out out-now : List ℕ) (r : Outcome ℕ) → calls.WriteRefusal number out out-now r →
+      KeepsTo (FirstOf (bytes_sentences (refused_line number) (length out))) (λ n. numbered r ≡ Err n)
+      (out-now ≡ out) ((n : ℕ) × (r ≡ Ok n))
   -- `program::list_plan`
-  pub listing_plan : (text out out-now : List ℕ) (r : Listed) → calls.ListPlan text out out-now r →
-      KeepsTo (FirstOfText text (λ p. plan_sentences p ++ listing_sentences p (length out))) (λ n. r ≡ listed.Refused n)
-      (out-now ≡ out) ((n : ℕ) × (r ≡ listed.Wrote n))
+  pub listing_plan : (text out out-now : List ℕ) (r : Outcome ℕ) → calls.ListPlan text out out-now r →
+      KeepsTo (FirstOfText text (λ p. plan_sentences p ++ listing_sentences p (length out))) (λ n. numbered r ≡ Err n)
+      (out-now ≡ out) ((n : ℕ) × (r ≡ Ok n))
   -- `program::print_all`, which the planning program runs: the first refusal that applies, with room for 3,000 entries
   -- and 2,000 frames, is printed
   pub printing : (text out out-now : List ℕ) (count : ℕ) → calls.PrintAll text out out-now count → (n : ℕ) →
       FirstOfText text (λ p. plan_sentences p ++ room_sentences (result p) 15000 6000) (refused n) →
       (count ≡ length (refused_line n)) × (out-now ≡ front (refused_line n) out)
   -- `checker::check_table`: nothing is lent for writing
-  pub checking : (p : Plan) (table : List ℕ) (delay : ℕ) (r : Checked) → calls.CheckTable p table delay r →
-      KeepsTo (FirstOf (plan_sentences (lines p) ++ table_sentences (lines p) table delay)) (λ n. r ≡ checked.Refused n)
-      (Unit {0}) (r ≡ checked.Accepted)
+  pub checking : (p : Plan) (table : List ℕ) (delay : ℕ) (r : Outcome (Unit {0})) → calls.CheckTable p table delay r →
+      KeepsTo (FirstOf (plan_sentences (lines p) ++ table_sentences (lines p) table delay)) (λ n. numbered r ≡ Err n)
+      (Unit {0}) (r ≡ Ok tt)
   -- `checker::check_listing`: nothing is lent for writing
-  pub checking_listing : (p : Plan) (listing : List ℕ) (r : Checked) → calls.CheckListing p listing r →
-      KeepsTo (FirstOfCheck (lines p) listing) (λ n. r ≡ checked.Refused n) (Unit {0}) (r ≡ checked.Accepted)
+  pub checking_listing : (p : Plan) (listing : List ℕ) (r : Outcome (Unit {0})) → calls.CheckListing p listing r →
+      KeepsTo (FirstOfCheck (lines p) listing) (λ n. numbered r ≡ Err n) (Unit {0}) (r ≡ Ok tt)
   -- `check_program::print_check`, which the program that checks a printed table runs: the first refusal that applies is
   -- printed, or that there is none
   pub printing_check : (input out out-now : List ℕ) (count : ℕ) → calls.PrintCheck input out out-now count → (x : m.Refusal) →
       FirstOfTexts (plan_part input) (listing_part input) x →
       (count ≡ length (check_prints x)) × (out-now ≡ front (check_prints x) out)
   -- `kernel::lookup`: an entry that the table has, or none
-  pub looking_up : (p : Plan) (table : List ℕ) (node tick heard values from : ℕ) (r : Found) →
+  pub looking_up : (p : Plan) (table : List ℕ) (node tick heard values from : ℕ) (r : Outcome (Option ℕ)) →
       calls.Lookup p table node tick heard values from r →
-      KeepsTo (FirstOf (plan_sentences (lines p))) (λ n. r ≡ found.Refused n)
-      (Unit {0}) ((r ≡ found.None) ⊎ ((i : ℕ) × (i < length (entries_of table)) × (r ≡ found.Entry i)))
+      KeepsTo (FirstOf (plan_sentences (lines p))) (λ n. numbered r ≡ Err n)
+      (Unit {0}) ((r ≡ Ok None) ⊎ ((i : ℕ) × (i < length (entries_of table)) × (r ≡ Ok (Some i))))
   -- `kernel_rows::row_entries`: no sentence applies, and what is handed back lies in the lent table
   pub row : (place : ℕ × ℕ) (table : List ℕ) (r : ℕ) (part-place : ℕ × ℕ) (part : List ℕ) →
       calls.RowEntries place table r part-place part → LiesIn place table part-place part

@@ -1,7 +1,7 @@
 -- Document 02, point 3: "Pass-overs for each unit." Over calls of the functions (specs/Calls.antt); that each keeps to
 -- the first refusal that applies is part of demand 1.
 -- Assumes nothing.
-use Rattle.std.specs.Prelude.{ℕ, ◌+◌, ◌*◌, ◌≤◌, ◌<◌, ◌≡◌, Bool, true, false, eqb, length, get_or}
+use Rattle.std.specs.Prelude.{Ok, Err, ℕ, ◌+◌, ◌*◌, ◌≤◌, ◌<◌, ◌≡◌, Bool, true, false, eqb, length, get_or}
 use mathlib.Core.List.{List, ◌∷◌, ◌++◌, map, Memᴰ as In}
 use Rattle.lists.specs.Lists.{keep, all, sum}
 use Rattle.model.specs.Plan.{Lines, Slot}
@@ -14,12 +14,11 @@ use Rattle.model.specs.Text.{text, field, short, Means}
 use Rattle.model.specs.Listing.{passed_line, passed_lines, plan_listing}
 use Rattle.model.specs.ListingText.{States}
 use Rattle.model.specs.Firmware.{words_of}
+use Rattle.refusals.specs.Numbers.{numbered}
 use Rattle.plan.specs.declared.Plan.{Plan}
 use Rattle.plan.specs.Memory.{lines}
 use Rattle.planner_table.specs.declared.Made.{Made}
-use Rattle.planner_table.specs.declared.Planned.TheVariants as planned
-use Rattle.checker_table.specs.declared.verdict.Checked.{Checked}
-use Rattle.checker_table.specs.declared.verdict.Checked.TheVariants as checked
+use Rattle.demands.specs.Calls.{Outcome}
 use Rattle.demands.specs.Calls as calls
 use Rattle.demands.specs.Sentences.{plan_sentences, FirstOf}
 use Rattle.demands.specs.Two.{NotRefused}
@@ -43,7 +42,7 @@ pub record Point3 : Type 0 where
       (t : ℕ) → bound p ≤ t → (s : Slot) → In s (beginning p t) → passes_over p (view p c (before p c t).log t) t s ≡ false
   -- `planner::plan_table`: the count of node n is word n of the words lent for the counts
   pub planned : (p : Plan) (table frames passed table-now frames-now passed-now : List ℕ) (m : Made) →
-      calls.PlanTable p table frames passed table-now frames-now passed-now (planned.Made m) →
+      calls.PlanTable p table frames passed table-now frames-now passed-now (Ok m) →
       (n : ℕ) → n < length (lines p).slots → get_or passed-now n 0 ≡ passed_by_node (lines p) n
   -- `riscadru_plan_table`: it is word n + 3 of the totals, where these have as many bytes
   pub c_planned : (text table frames totals table-now frames-now totals-now : List ℕ) (answer : ℕ) →
@@ -61,13 +60,13 @@ pub record Point3 : Type 0 where
   pub other_line_refused : (p : Plan) → FirstOf (plan_sentences (lines p)) nothing → (delay : ℕ) (counts rest : List ℕ) →
       all short (delay ∷ counts) ≡ true → length counts < length (lines p).slots →
       ((count : ℕ) (behind : List ℕ) → rest ≡ passed_line (length counts) count ++ behind → ⊥) →
-      (r : Checked) → calls.CheckListing p (begins delay counts rest) r → r ≡ checked.Refused 21
+      (r : Outcome (Unit {0})) → calls.CheckListing p (begins delay counts rest) r → numbered r ≡ Err 21
   pub old_line_refused : (p : Plan) → FirstOf (plan_sentences (lines p)) nothing → (delay count : ℕ) (rest : List ℕ) →
-      short delay ≡ true → short count ≡ true → (r : Checked) →
-      calls.CheckListing p (field "delay" delay ++ text "\n" ++ (field "passed" count ++ rest)) r → r ≡ checked.Refused 21
+      short delay ≡ true → short count ≡ true → (r : Outcome (Unit {0})) →
+      calls.CheckListing p (field "delay" delay ++ text "\n" ++ (field "passed" count ++ rest)) r → numbered r ≡ Err 21
   pub further_line_refused : (p : Plan) → FirstOf (plan_sentences (lines p)) nothing → (delay : ℕ) (counts rest : List ℕ) →
-      all short (delay ∷ counts) ≡ true → length counts ≡ length (lines p).slots → (r : Checked) →
-      calls.CheckListing p (begins delay counts (text "(passed " ++ rest)) r → r ≡ checked.Refused 21
+      all short (delay ∷ counts) ≡ true → length counts ≡ length (lines p).slots → (r : Outcome (Unit {0})) →
+      calls.CheckListing p (begins delay counts (text "(passed " ++ rest)) r → numbered r ≡ Err 21
   -- an accepted listing states the count of each node
-  pub compared : (p : Plan) (bytes : List ℕ) → calls.CheckListing p bytes checked.Accepted → (s : Result) →
+  pub compared : (p : Plan) (bytes : List ℕ) → calls.CheckListing p bytes (Ok tt) → (s : Result) →
       States (lines p) bytes s → (n : ℕ) → n < length (lines p).slots → get_or s.passed n 0 ≡ passed_by_node (lines p) n

@@ -1,7 +1,7 @@
 -- Document 02, point 2: "Check a printed table." Over calls of the functions (specs/Calls.antt); that each keeps to the
 -- first refusal that applies is part of demand 1.
 -- Assumes nothing.
-use Rattle.std.specs.Prelude.{ℕ, ◌^◌, ◌≤◌, ◌<◌, ◌≡◌, ◌↔◌, true, length, take}
+use Rattle.std.specs.Prelude.{Ok, ℕ, ◌^◌, ◌≤◌, ◌<◌, ◌≡◌, ◌↔◌, true, length, take}
 use mathlib.Core.List.{List, ◌∷◌, ◌++◌, Memᴰ as In}
 use Rattle.limits.specs.Limits.{INPUT}
 use Rattle.lists.specs.Front.{front}
@@ -15,10 +15,7 @@ use Rattle.model.specs.ListingText.{States, rows_in_order, ChecksInput, check_pr
 use Rattle.model.specs.Demand.{RunsRight}
 use Rattle.plan.specs.declared.Plan.{Plan}
 use Rattle.plan.specs.Memory.{lines}
-use Rattle.listing.specs.declared.writer.Listed.{Listed}
-use Rattle.listing.specs.declared.writer.Listed.TheVariants as listed
-use Rattle.checker_table.specs.declared.verdict.Checked.{Checked}
-use Rattle.checker_table.specs.declared.verdict.Checked.TheVariants as checked
+use Rattle.demands.specs.Calls.{Outcome}
 use Rattle.demands.specs.Calls as calls
 use Rattle.demands.specs.Kernel.{Answers, ByLookup, asked}
 use Rattle.demands.specs.Sentences.{plan_sentences, room_sentences, FirstOf, FirstOfText}
@@ -59,20 +56,20 @@ pub record Point2 : Type 0 where
       States p bytes r → States p bytes s → r ≡ s
   -- "An accepted listing has everything an accepted table has", and no other is accepted: `checker::check_listing`, and
   -- `riscadru_check_listing`
-  pub accepts : (p : Plan) (bytes : List ℕ) (r : Checked) → calls.CheckListing p bytes r →
-      (r ≡ checked.Accepted) ↔ AcceptedListing (lines p) bytes
+  pub accepts : (p : Plan) (bytes : List ℕ) (r : Outcome (Unit {0})) → calls.CheckListing p bytes r →
+      (r ≡ Ok tt) ↔ AcceptedListing (lines p) bytes
   pub c_accepts : (text bytes : List ℕ) (answer : ℕ) → calls.CCheckListing text bytes answer →
       (answer ≡ 0) ↔ AcceptedFor text bytes
   -- what an accepted listing states is accepted as words, too, and every run of it is right, with answers of
   -- `kernel::lookup`
-  pub accepted_as_words : (p : Plan) (bytes : List ℕ) → calls.CheckListing p bytes checked.Accepted → (s : Result) →
-      States (lines p) bytes s → (r : Checked) → calls.CheckTable p (entry_words s.entries) s.delay r → r ≡ checked.Accepted
-  pub runs_right : (p : Plan) (bytes : List ℕ) → calls.CheckListing p bytes checked.Accepted → (s : Result) →
+  pub accepted_as_words : (p : Plan) (bytes : List ℕ) → calls.CheckListing p bytes (Ok tt) → (s : Result) →
+      States (lines p) bytes s → (r : Outcome (Unit {0})) → calls.CheckTable p (entry_words s.entries) s.delay r → r ≡ Ok tt
+  pub runs_right : (p : Plan) (bytes : List ℕ) → calls.CheckListing p bytes (Ok tt) → (s : Result) →
       States (lines p) bytes s → (answers : Answers) → ByLookup p (entry_words s.entries) answers →
       RunsRight (lines p) (entry_words s.entries) s.delay (asked answers)
   -- what the planner prints is accepted: by `program::list_plan`, by `riscadru_plan_listing`, and, behind the plan and
   -- an empty line, by the two programs
-  pub planned_accepted : (text out out-now : List ℕ) (count : ℕ) → calls.ListPlan text out out-now (listed.Wrote count) →
+  pub planned_accepted : (text out out-now : List ℕ) (count : ℕ) → calls.ListPlan text out out-now (Ok count) →
       (answer : ℕ) → calls.CCheckListing text (take count out-now) answer → answer ≡ 0
   pub c_planned_accepted : (text out out-now : List ℕ) (count : ℕ) → calls.CPlanListing text out out-now count → NotRefused count →
       (answer : ℕ) → calls.CCheckListing text (take count out-now) answer → answer ≡ 0
@@ -82,16 +79,16 @@ pub record Point2 : Type 0 where
       (many ≡ length (check_prints nothing)) × (verdict-now ≡ front (check_prints nothing) verdict)
   -- "A printed table read and printed again is byte for byte the same": what a text states, in whatever order the lines
   -- of a row stand, written by `listing::write_listing` into bytes that suffice, from words that begin with its counts
-  pub printed_again : (p : Plan) (bytes : List ℕ) (s : Result) → States (lines p) bytes s → (out out-now : List ℕ) (r : Listed) →
+  pub printed_again : (p : Plan) (bytes : List ℕ) (s : Result) → States (lines p) bytes s → (out out-now : List ℕ) (r : Outcome ℕ) →
       (passed : List ℕ) → take (length (lines p).slots) passed ≡ s.passed →
       calls.WriteListing p s.delay passed (entry_words s.entries) (frame_words s.frames) out out-now r →
-      length bytes ≤ length out → (r ≡ listed.Wrote (length bytes)) × (out-now ≡ front bytes out)
+      length bytes ≤ length out → (r ≡ Ok (length bytes)) × (out-now ≡ front bytes out)
   -- and an accepted table, printed and read, is that table, and accepted
-  pub read_again : (p : Plan) (table : List ℕ) (delay : ℕ) → calls.CheckTable p table delay checked.Accepted →
+  pub read_again : (p : Plan) (table : List ℕ) (delay : ℕ) → calls.CheckTable p table delay (Ok tt) →
       CanBeListed (lines p) table delay → (s : Result) → States (lines p) (listing_of (lines p) table delay) s →
       (entry_words s.entries ≡ table) × (s.delay ≡ delay)
-  pub listed_accepted : (p : Plan) (table : List ℕ) (delay : ℕ) → calls.CheckTable p table delay checked.Accepted →
-      CanBeListed (lines p) table delay → (r : Checked) → calls.CheckListing p (listing_of (lines p) table delay) r →
-      r ≡ checked.Accepted
+  pub listed_accepted : (p : Plan) (table : List ℕ) (delay : ℕ) → calls.CheckTable p table delay (Ok tt) →
+      CanBeListed (lines p) table delay → (r : Outcome (Unit {0})) → calls.CheckListing p (listing_of (lines p) table delay) r →
+      r ≡ Ok tt
   -- an input that is longer than the bytes that the program lends is answered as its beginning
   pub longer_alike : (input : List ℕ) → INPUT ≤ length input → (x : Refusal) → ChecksInput (take INPUT input) x → ChecksInput input x

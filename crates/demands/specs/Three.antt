@@ -3,7 +3,7 @@
 -- is right, and exact with full ticks (`RunsRight` in crates/model/specs/Demand.antt). Over calls of the functions
 -- (specs/Calls.antt): in memory, from C, and for a table that is accepted as words and looked up as bytes.
 -- Assumes nothing.
-use Rattle.std.specs.Prelude.{ℕ, ◌≤◌, ◌<◌, ◌≡◌, ◌↔◌, List, length, take, get_or}
+use Rattle.std.specs.Prelude.{Ok, ℕ, ◌≤◌, ◌<◌, ◌≡◌, ◌↔◌, List, length, take, get_or}
 use Rattle.model.specs.Plan.{Lines}
 use Rattle.model.specs.Text.{Means}
 use Rattle.model.specs.Checking.{Sound}
@@ -12,9 +12,7 @@ use Rattle.model.specs.Firmware.{words_of}
 use Rattle.plan.specs.declared.Plan.{Plan}
 use Rattle.plan.specs.Memory.{lines}
 use Rattle.planner_table.specs.declared.Made.{Made}
-use Rattle.planner_table.specs.declared.Planned.TheVariants as planned
-use Rattle.checker_table.specs.declared.verdict.Checked.{Checked}
-use Rattle.checker_table.specs.declared.verdict.Checked.TheVariants as checked
+use Rattle.demands.specs.Calls.{Outcome}
 use Rattle.demands.specs.Calls as calls
 use Rattle.demands.specs.Kernel.{Answers, ByLookup, asked, Numbers, ByCLookup, asked_numbers}
 use Rattle.demands.specs.Two.{NotRefused}
@@ -28,14 +26,14 @@ pub record SoundFor (text words : List ℕ) (delay : ℕ) : Type 0 where
 
 pub record Demand3 : Type 0 where
   -- `checker::check_table` accepts exactly the sound tables
-  pub accepts : (p : Plan) (table : List ℕ) (delay : ℕ) (r : Checked) → calls.CheckTable p table delay r →
-      (r ≡ checked.Accepted) ↔ Sound (lines p) table delay
+  pub accepts : (p : Plan) (table : List ℕ) (delay : ℕ) (r : Outcome (Unit {0})) → calls.CheckTable p table delay r →
+      (r ≡ Ok tt) ↔ Sound (lines p) table delay
   -- it accepts what `planner::plan_table` wrote, as many words as that says, with the delay that it gave
   pub planned_accepted : (p : Plan) (table frames passed table-now frames-now passed-now : List ℕ) (m : Made) →
-      calls.PlanTable p table frames passed table-now frames-now passed-now (planned.Made m) → (r : Checked) →
-      calls.CheckTable p (take m.words table-now) m.delay r → r ≡ checked.Accepted
+      calls.PlanTable p table frames passed table-now frames-now passed-now (Ok m) → (r : Outcome (Unit {0})) →
+      calls.CheckTable p (take m.words table-now) m.delay r → r ≡ Ok tt
   -- every run of a table that it accepted, with answers of `kernel::lookup`
-  pub runs_right : (p : Plan) (table : List ℕ) (delay : ℕ) → calls.CheckTable p table delay checked.Accepted → (answers : Answers) →
+  pub runs_right : (p : Plan) (table : List ℕ) (delay : ℕ) → calls.CheckTable p table delay (Ok tt) → (answers : Answers) →
       ByLookup p table answers → RunsRight (lines p) table delay (asked answers)
   -- `riscadru_check_table` answers 0 exactly where the table is sound for the lines that the text means
   pub c_accepts : (text table : List ℕ) (delay answer : ℕ) → calls.CCheckTable text table delay answer →
@@ -50,6 +48,6 @@ pub record Demand3 : Type 0 where
       Means text p → (answers : Numbers) → ByCLookup text table p answers → RunsRight p (words_of table) delay (asked_numbers answers)
   -- every run of a table that `checker::check_table` accepted as words, with answers of `riscadru_lookup` to bytes of
   -- which these are the words, and to a text that means the plan's lines
-  pub words_as_bytes : (p : Plan) (table : List ℕ) (delay : ℕ) → calls.CheckTable p table delay checked.Accepted → (text bytes : List ℕ) →
+  pub words_as_bytes : (p : Plan) (table : List ℕ) (delay : ℕ) → calls.CheckTable p table delay (Ok tt) → (text bytes : List ℕ) →
       Means text (lines p) → length text ≤ 16384 → words_of bytes ≡ table → length bytes < 18446744073709551616 → (answers : Numbers) →
       ByCLookup text bytes (lines p) answers → RunsRight (lines p) table delay (asked_numbers answers)

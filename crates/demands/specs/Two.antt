@@ -4,7 +4,7 @@
 -- form of lines is `print` (crates/model/specs/Text.antt), and list scheduling is `result`
 -- (crates/model/specs/Table.antt), which rests on `step` and `dispatch_order` (crates/model/specs/Planning.antt).
 -- Assumes nothing.
-use Rattle.std.specs.Prelude.{ℕ, ◌+◌, ◌*◌, ◌≤◌, ◌<◌, ◌≡◌, ◌⊎◌, true, length, take, get_or}
+use Rattle.std.specs.Prelude.{Ok, ℕ, ◌+◌, ◌*◌, ◌≤◌, ◌<◌, ◌≡◌, ◌⊎◌, true, length, take, get_or}
 use mathlib.Core.List.{List, ◌++◌, map, Memᴰ as In}
 use Rattle.lists.specs.Lists.{greatest}
 use Rattle.lists.specs.Front.{front}
@@ -19,14 +19,9 @@ use Rattle.model.specs.Listing.{plan_listing}
 use Rattle.c_words.specs.Bytes.{bytes_of}
 use Rattle.plan.specs.declared.Plan.{Plan}
 use Rattle.plan.specs.Memory.{lines}
-use Rattle.plan_refusals.specs.declared.sentences.Refusal.TheVariants as refusal
-use Rattle.text_reader.specs.declared.reader.Read.{Read}
-use Rattle.text_writer.specs.declared.writer.Written.{Written}
-use Rattle.text_writer.specs.declared.writer.Written.TheVariants as written
 use Rattle.planner_table.specs.declared.Made.{Made}
-use Rattle.planner_table.specs.declared.Planned.TheVariants as planned
-use Rattle.listing.specs.declared.writer.Listed.TheVariants as listed
 use Rattle.c_plan.specs.Filled.{totals_of}
+use Rattle.demands.specs.Calls.{Outcome}
 use Rattle.demands.specs.Calls as calls
 use Rattle.demands.specs.Sentences.{FirstOf, plan_sentences, room_sentences, InNumber}
 
@@ -70,31 +65,31 @@ pub record ListedPlan (text out out-now : List ℕ) (count : ℕ) : Type 0 where
 pub record Demand2 : Type 0 where
   -- `text_reader::read_plan`: the plan that is read prints as the text, and no other lines do; lines to which no
   -- sentence applies are read from their text; two texts that are read as the same lines are the same
-  pub meaning : (text : List ℕ) (r : Read) → calls.ReadPlan text r → r.refusal ≡ refusal.Nothing → print (lines r.plan) ≡ text
-  pub only_meaning : (text : List ℕ) (r : Read) → calls.ReadPlan text r → r.refusal ≡ refusal.Nothing → (q : Lines) → Means text q → q ≡ lines r.plan
-  pub is_read : (text : List ℕ) (r : Read) → calls.ReadPlan text r → (q : Lines) → Means text q → length text ≤ 16384 → FirstOf (plan_sentences q) nothing →
-      (r.refusal ≡ refusal.Nothing) × (lines r.plan ≡ q)
-  pub one_text : (text other : List ℕ) (r s : Read) → calls.ReadPlan text r → calls.ReadPlan other s → r.refusal ≡ refusal.Nothing →
-      s.refusal ≡ refusal.Nothing → lines r.plan ≡ lines s.plan → text ≡ other
+  pub meaning : (text : List ℕ) (p : Plan) → calls.ReadPlan text (Ok p) → print (lines p) ≡ text
+  pub only_meaning : (text : List ℕ) (p : Plan) → calls.ReadPlan text (Ok p) → (q : Lines) → Means text q → q ≡ lines p
+  pub is_read : (text : List ℕ) (r : Outcome Plan) → calls.ReadPlan text r → (q : Lines) → Means text q → length text ≤ 16384 → FirstOf (plan_sentences q) nothing →
+      (p : Plan) × (r ≡ Ok p) × (lines p ≡ q)
+  pub one_text : (text other : List ℕ) (p q : Plan) → calls.ReadPlan text (Ok p) → calls.ReadPlan other (Ok q) →
+      lines p ≡ lines q → text ≡ other
   -- `text_writer::write_plan`, then `read_plan` on the bytes written: a plan with the same lines
-  pub written_read : (p : Plan) (out out-now : List ℕ) (n : ℕ) → calls.WritePlan p out out-now (written.Wrote n) → (r : Read) →
-      calls.ReadPlan (take n out-now) r → (r.refusal ≡ refusal.Nothing) × (lines r.plan ≡ lines p)
+  pub written_read : (p : Plan) (out out-now : List ℕ) (n : ℕ) → calls.WritePlan p out out-now (Ok n) → (r : Outcome Plan) →
+      calls.ReadPlan (take n out-now) r → (q : Plan) × (r ≡ Ok q) × (lines q ≡ lines p)
   -- `read_plan`, then `write_plan` into bytes that suffice: the text, byte for byte, at their front
-  pub read_written : (text : List ℕ) (r : Read) → calls.ReadPlan text r → r.refusal ≡ refusal.Nothing → (out out-now : List ℕ) (w : Written) →
-      length text ≤ length out → calls.WritePlan r.plan out out-now w → (w ≡ written.Wrote (length text)) × (out-now ≡ front text out)
+  pub read_written : (text : List ℕ) (p : Plan) → calls.ReadPlan text (Ok p) → (out out-now : List ℕ) (w : Outcome ℕ) →
+      length text ≤ length out → calls.WritePlan p out out-now w → (w ≡ Ok (length text)) × (out-now ≡ front text out)
   -- `riscadru_copy_plan`: the text again
   pub c_copied : (text out out-now : List ℕ) (answer : ℕ) → calls.CCopyPlan text out out-now answer → NotRefused answer →
       (answer ≡ length text) × (out-now ≡ front text out)
   -- `planner::plan_table`
   pub scheduled : (p : Plan) (table frames passed table-now frames-now passed-now : List ℕ) (m : Made) →
-      calls.PlanTable p table frames passed table-now frames-now passed-now (planned.Made m) →
+      calls.PlanTable p table frames passed table-now frames-now passed-now (Ok m) →
       Scheduled (lines p) table frames passed table-now frames-now passed-now m
   -- `riscadru_plan_table`: for the lines that the text means
   pub c_scheduled : (text table frames totals table-now frames-now totals-now : List ℕ) (answer : ℕ) →
       calls.CPlanTable text table frames totals table-now frames-now totals-now answer → NotRefused answer →
       (p : Lines) × Means text p × ScheduledBytes p table frames totals table-now frames-now totals-now answer
   -- `program::list_plan` and `riscadru_plan_listing`
-  pub listed : (text out out-now : List ℕ) (n : ℕ) → calls.ListPlan text out out-now (listed.Wrote n) → ListedPlan text out out-now n
+  pub listed : (text out out-now : List ℕ) (n : ℕ) → calls.ListPlan text out out-now (Ok n) → ListedPlan text out out-now n
   pub c_listed : (text out out-now : List ℕ) (answer : ℕ) → calls.CPlanListing text out out-now answer → NotRefused answer →
       ListedPlan text out out-now answer
   -- `program::print_all`, which the planning program runs

@@ -1,24 +1,23 @@
 -- What the lookup's answer stands for, the nodes of a plan's rows, and the search by them over a table's entries.
 -- Assumes nothing.
-use Rattle.std.specs.Prelude.{Bool, true, false, ◌&&◌, List, [], ◌∷◌, ℕ, suc, eqb, ltb}
+use Rattle.std.specs.Prelude.{◌≡◌, ◌<◌, ◌/◌, Bool, true, false, ◌&&◌, List, [], ◌∷◌, Option, None, Some, Result, Ok, Err, ℕ, suc, eqb, ltb, length}
 use Rattle.limits.specs.Limits.{ROWS}
 use Rattle.lists.specs.Lists.{fill}
 use Rattle.model.specs.Bus.{rows, row_node}
 use Rattle.model.specs.Table.{Entry, bits_met}
 use Rattle.model.specs.Lookup.{entry, none, refusal}
 use Rattle.model.specs.Lookup as m
+use Rattle.kernel_rows.specs.Entries.{entry_at}
 use Rattle.plan.specs.declared.Plan.{Plan}
 use Rattle.plan.specs.Memory.{lines}
 use Rattle.plan.specs.Tests.{at}
 use Rattle.kernel.specs.declared.nodes.RowNodes.{RowNodes}
-use Rattle.kernel.specs.declared.search.Found.{Found}
-use Rattle.kernel.specs.declared.search.Found.TheVariants.{Entry as Numbered, None, Refused}
 
--- the answer in memory to each answer of the model
-abbrev pub found_of : m.Found → Found
-found_of (entry i) = Numbered i
-found_of none = None
-found_of (refusal n) = Refused n
+-- the answer in memory to each answer of the model, with the number of a refusal
+abbrev pub found_of : m.Found → Result (Option ℕ) ℕ
+found_of (entry i) = Ok (Some i)
+found_of none = Ok None
+found_of (refusal n) = Err n
 
 -- the nodes of the first n rows of a plan, in an array with zeros past them
 abbrev pub nodes_to : Plan → ℕ → List ℕ
@@ -38,3 +37,8 @@ fits_by nodes rows n t h v e =
 unfoldable pub find_by : (Entry → Bool) → List Entry → ℕ → m.Found
 find_by f [] i = none
 find_by f (e ∷ es) i = elim (f e) [ true ↦ entry i | false ↦ find_by f es (suc i) ]
+
+-- n entries of words, of which `told` tells whether each passes a test
+pub record TestsOf (told : ℕ → Bool → Type 0) (n : ℕ) (test : Entry → Bool) (words : List ℕ) : Type 0 where
+  pub count : n ≡ length words / 5
+  pub tests : (i : ℕ) (b : Bool) → i < n → told i b → b ≡ test (entry_at words i)

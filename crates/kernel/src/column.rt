@@ -6,8 +6,5 @@ ghost use Rattle.model.specs.Table.{bits_met};
 pub(crate) fn column_met(known: u32, values: u32, heard: u32, told: u32) -> bool
     ensures { result ≡ bits_met 32 known values heard told }
 {
-    if known & heard == known {
-        return values & known == told & known;
-    }
-    false
+    known & heard == known && values & known == told & known
 }

@@ -10,5 +10,5 @@ mod search;
 mod table;
 
 pub use nodes::{RowNodes, row_nodes};
-pub use search::{Found, entry_fits};
+pub use search::{entry_fits, first_entry};
 pub use table::lookup;

@@ -5,7 +5,7 @@ ghost use Rattle.model.specs.Refusals.{nothing, plan_refusal};
 ghost use Rattle.plan.specs.Memory.{lines};
 ghost use Rattle.kernel.specs.Finding.{nodes_to, nodes_of};
 
-use arrays::{no_rows, wide};
+use arrays::{wide, zeros};
 use limits::ROWS;
 use plan::Plan;
 
@@ -22,11 +22,9 @@ fn put_processes(p: Plan, node: &mut [u32; ROWS])
     requires fact_2 { node.old ≡ nodes_to p 0 }
     ensures { node.new ≡ nodes_to p p.processes }
 {
-    let mut i: usize = 0;
-    while i < p.processes {
+    for i in 0..p.processes {
         let q = p.process[i];
         node[i] = q.node;
-        i += 1;
     }
 }
 
@@ -36,12 +34,10 @@ fn put_edges(p: Plan, node: &mut [u32; ROWS])
     requires fact_2 { node.old ≡ nodes_to p p.processes }
     ensures { node.new ≡ nodes_to p (p.processes + p.edges) }
 {
-    let mut i: usize = 0;
-    while i < p.edges {
+    for i in 0..p.edges {
         let e = p.edge[i];
         let sender = wide(e.from);
         node[p.processes + i] = node[sender];
-        i += 1;
     }
 }
 
@@ -52,11 +48,9 @@ fn put_conditions(p: Plan, node: &mut [u32; ROWS])
     ensures { node.new ≡ nodes_to p (rows (lines p)) }
 {
     let first = p.processes + p.edges;
-    let mut i: usize = 0;
-    while i < p.conditions {
+    for i in 0..p.conditions {
         let decider = wide(p.condition[i]);
         node[first + i] = node[decider];
-        i += 1;
     }
 }
 
@@ -65,7 +59,7 @@ pub fn row_nodes(p: Plan) -> RowNodes
     requires { plan_refusal (lines p) ≡ nothing }
     ensures { result ≡ nodes_of p }
 {
-    let mut node = no_rows();
+    let mut node = zeros::<ROWS>();
     put_processes(p, &mut node);
     put_edges(p, &mut node);
     put_conditions(p, &mut node);

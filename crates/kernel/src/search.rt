@@ -1,22 +1,13 @@
-// The search for an entry of a table that a unit takes up next, by the node of each row.
-ghost use Rattle.std.specs.Prelude.{◌≡◌, ◌/◌, ◌≤◌, ◌<◌, length, drop};
+// The test of an entry by the node of each row, and the search for the first entry that passes a test.
+ghost use Rattle.std.specs.Prelude.{Ok, Bool, ℕ, List, ◌≡◌, ◌/◌, ◌≤◌, ◌<◌, length, drop};
 ghost use Rattle.limits.specs.Limits.{ROWS};
-ghost use Rattle.model.specs.Table.{entries_of};
+ghost use Rattle.model.specs.Table.{Entry, entries_of};
 ghost use Rattle.kernel_rows.specs.Entries.{entry_at};
-ghost use Rattle.kernel.specs.Finding.{found_of, fits_by, find_by};
+ghost use Rattle.kernel.specs.Finding.{found_of, fits_by, find_by, TestsOf};
 
 use crate::column::column_met;
-use crate::nodes::RowNodes;
 use arrays::wide;
 use limits::ROWS;
-
-// What the lookup answers: the number of an entry, that there is none, or the refusal of the plan, 2 to 9.
-#[derive(Clone, Copy)]
-pub enum Found {
-    Entry(usize),
-    None,
-    Refused(u32),
-}
 
 // Whether entry i of a table is of a node at a tick, and its column is met by what is heard. `nodes` has the node of
 // each row of the plan.
@@ -48,28 +39,17 @@ pub fn entry_fits<'a>(
     column_met(table[at + 1], table[at + 2], heard, told)
 }
 
-// The first entry from number `first` on that is of a node at a tick and whose column is met by what is heard. `b`
-// tells the node of each row.
-pub(crate) fn first_fitting(
-    table: &[u32],
-    first: usize,
-    b: RowNodes,
-    node: u32,
-    tick: u32,
-    heard: u32,
-    told: u32,
-) -> Found
-    requires { b.rows ≤ ROWS }
-    ensures { result ≡ found_of (find_by (fits_by b.node b.rows node tick heard told)
-        (drop first (entries_of table.now)) first) }
+// The number of the first of n entries, from number `first` on, that fits, as `fits` tells of each by its number.
+pub fn first_entry<F: Fn(usize) -> bool>(n: usize, first: usize, fits: &F) -> Option<usize>
+    requires { (i : ℕ) → i < n → F.pre fits.now i }
+    ensures { (test : Entry → Bool) (words : List ℕ) → TestsOf (F.post fits.now) n test words
+        → Ok result ≡ found_of (find_by test (drop first (entries_of words)) first) }
 {
-    let n = table.len() / 5;
-    let mut i = first;
-    while i < n {
-        if entry_fits(table, i, &b.node, b.rows, node, tick, heard, told) {
-            return Found::Entry(i);
+    // A loop: the new form is no plainer, because the check does not find what `find` asks of a lent closure.
+    for i in first..n {
+        if fits(i) {
+            return Some(i);
         }
-        i += 1;
     }
-    Found::None
+    None
 }

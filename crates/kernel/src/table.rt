@@ -1,18 +1,21 @@
 // The kernel lookup: which entry of a table a unit takes up next.
-ghost use Rattle.std.specs.Prelude.{◌≡◌};
+ghost use Rattle.std.specs.Prelude.{Ok, ◌≡◌};
 ghost use Rattle.model.specs.Refusals.{nothing, plan_refusal};
 ghost use Rattle.model.specs.Lookup as m;
 ghost use Rattle.plan.specs.Memory.{lines};
+ghost use Rattle.refusals.specs.Numbers.{numbered};
 ghost use Rattle.kernel.specs.Finding.{found_of};
 
 use crate::nodes::row_nodes;
-use crate::search::{Found, first_fitting};
+use crate::search::{entry_fits, first_entry};
 use arrays::wide;
 use plan::Plan;
-use plan_refusals::{Refusal, refuse};
+use plan_refusals::refuse;
+use refusals::Refusal;
 
-// The first entry from number `first` on that is of a node at a tick and whose column is met by what is heard, for a
-// plan in which refusals 2 to 9 find nothing: the plan tells the node of a row. A node that it lacks has no entries.
+// The number of the first entry from number `first` on that is of a node at a tick and whose column is met by what is
+// heard, for a plan in which refusals 2 to 9 find nothing: the plan tells the node of a row. A node that it lacks has
+// no entries.
 fn found_in(
     p: Plan,
     table: &[u32],
@@ -21,15 +24,19 @@ fn found_in(
     heard: u32,
     values: u32,
     first: usize,
-) -> Found
+) -> Option<usize>
     requires { plan_refusal (lines p) ≡ nothing }
-    ensures { result ≡ found_of (m.lookup (lines p) table.now node tick heard values first) }
+    ensures { Ok result ≡ found_of (m.lookup (lines p) table.now node tick heard values first) }
 {
     if p.slots <= wide(node) {
-        return Found::None;
+        return None;
     }
     let b = row_nodes(p);
-    first_fitting(table, first, b, node, tick, heard, values)
+    first_entry(
+        table.len() / 5,
+        first,
+        &|i| entry_fits(table, i, &b.node, b.rows, node, tick, heard, values),
+    )
 }
 
 // The kernel lookup: the number of the first entry, from number `first` on, of a node at a tick whose known bits are
@@ -43,12 +50,9 @@ pub fn lookup(
     heard: u32,
     values: u32,
     first: usize,
-) -> Found
-    ensures { result ≡ found_of (m.lookup (lines p) table.now node tick heard values first) }
+) -> Result<Option<usize>, Refusal>
+    ensures { numbered result ≡ found_of (m.lookup (lines p) table.now node tick heard values first) }
 {
-    let refusal = refuse(p);
-    match refusal {
-        Refusal::Refused(n) => Found::Refused(n),
-        Refusal::Nothing => found_in(p, table, node, tick, heard, values, first),
-    }
+    refuse(p)?;
+    Ok(found_in(p, table, node, tick, heard, values, first))
 }

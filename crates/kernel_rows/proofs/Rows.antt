@@ -11,6 +11,7 @@ use borrow.Author.Tests.{eq-eqb, ne_eqb}
 use Rattle.model.specs.Table.{Entry, entries_of}
 use Rattle.model.specs.Lookup.{before_row, run_of_row, row_length, row_start, row_part}
 use Rattle.kernel_rows.specs.Entries.{entry_at}
+use Rattle.kernel_rows.specs.RowRange.{RangeOf}
 use Rattle.kernel_rows.proofs.Entries.{entries_next, entries_end}
 
 -- one entry
@@ -52,28 +53,30 @@ module _ (ws : List ℕ) (r i : ℕ) where
     pub run_over : (get_or ws (i * 5) 0 ≡ r → ⊥) → run_of_row r (drop i (entries_of ws)) ≡ 0
     run_over q = ap (run_of_row r) (entries_next ws i l) ∙ run_not r (entry_at ws i) (drop (i + 1) (entries_of ws)) (ne_eqb _ r q)
 
--- the part that holds a row's entries, from how many entries stand before it (a) and in it (b)
-module _ (ws : List ℕ) (r a b : ℕ) (pa : a ≡ before_row r (entries_of ws)) (pb : b ≡ run_of_row r (drop a (entries_of ws))) where
-  pub length_same : row_length ws r ≡ 5 * b
+-- the part that holds a row's entries, from the range of their numbers
+module _ (ws : List ℕ) (r first end : ℕ) (d : RangeOf ws r first end) where
+  pub length_same : row_length ws r ≡ (end - first) * 5
   unfolding row_length
-  length_same = sym (ap (λ (n : ℕ). 5 * n) (pb ∙ ap (λ (n : ℕ). run_of_row r (drop n (entries_of ws))) pa))
+  length_same =
+      let same : row_length ws r ≡ 5 * run_of_row r (drop first (entries_of ws)) = ap (λ (n : ℕ). 5 * run_of_row r (drop n (entries_of ws))) (sym d.begins) in
+      omega (arith, d.ends)
 
   -- no entry is of the row
-  pub none_start : b ≡ 0 → row_start ws r ≡ 0
+  pub none_start : end ≤ first → row_start ws r ≡ 0
   unfolding row_start
   none_start z = rw (eq-eqb (row_length ws r) 0 (omega (arith, length_same)))
 
-  pub none_part : b ≡ 0 → row_part ws r ≡ []
+  pub none_part : end ≤ first → row_part ws r ≡ []
   unfolding row_part
   none_part z = let q : row_length ws r ≡ 0 = omega (arith, length_same) in rw q
 
   -- some entry is
-  pub some_start : (b ≡ 0 → ⊥) → row_start ws r ≡ a * 5
+  pub some_start : first < end → row_start ws r ≡ first * 5
   unfolding row_start
-  some_start z = rw (ne_eqb (row_length ws r) 0 (λ q. z (omega (arith, length_same, q)))) (omega (arith, pa))
+  some_start z = rw (ne_eqb (row_length ws r) 0 (λ q. omega (arith, length_same, q))) (omega (arith, d.begins))
 
-  pub some_part : (b ≡ 0 → ⊥) → row_part ws r ≡ take ((a + b) * 5 - a * 5) (drop (a * 5) ws)
+  pub some_part : first < end → row_part ws r ≡ take (end * 5 - first * 5) (drop (first * 5) ws)
   unfolding row_part
   some_part z =
-      let q : row_length ws r ≡ (a + b) * 5 - a * 5 = omega (arith, length_same) in
+      let q : row_length ws r ≡ end * 5 - first * 5 = omega (arith, length_same) in
       rw (q, some_start z)

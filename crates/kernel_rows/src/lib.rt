@@ -2,42 +2,54 @@
 // Document 01: "A row's entries are handed back as the part of the lent table holding them"
 #![tactic(auto)]
 
-ghost use Rattle.std.specs.Prelude.{◌≡◌, ◌+◌, ◌/◌, ◌≤◌, length, drop};
+ghost use Rattle.std.specs.Prelude.{◌≡◌, ℕ, ◌+◌, ◌<◌, ◌≤◌, List, drop};
 ghost use Rattle.model.specs.Table.{entries_of};
 ghost use Rattle.model.specs.Lookup.{before_row, run_of_row, row_start, row_part};
 ghost use Rattle.kernel_rows.specs.Part.{words_on};
+ghost use Rattle.kernel_rows.specs.RowRange.{RowsOf, RangeOf};
 
-// How many entries stand before the first of a row; all of them where no entry is of that row.
-fn entries_before(table: &[u32], row: u32) -> usize
-    ensures value { result ≡ before_row row (entries_of table.now) }
-    ensures upper_bound { result ≤ length table.now / 5 }
+use std::ops::Range;
+
+// How many of n entries stand before the first of a row; all n where no entry is of that row.
+fn entries_before<F: Fn(usize) -> u32>(n: usize, row: u32, row_of: &F) -> usize
+    requires { (i : ℕ) → i < n → F.pre row_of.now i }
+    ensures value { (words : List ℕ) → RowsOf (F.post row_of.now) n words → result ≡ before_row row (entries_of words) }
+    ensures upper_bound { result ≤ n }
 {
-    let n = table.len() / 5;
-    let mut i: usize = 0;
-    while i < n {
-        if table[i * 5] == row {
+    for i in 0..n {
+        if row_of(i) == row {
             return i;
         }
-        i += 1;
     }
     n
 }
 
-// How many entries of a row follow one another from entry `first` on.
-fn entries_from(table: &[u32], first: usize, row: u32) -> usize
-    requires { first ≤ length table.now / 5 }
-    ensures value { result ≡ run_of_row row (drop first (entries_of table.now)) }
-    ensures result_in_bounds { first + result ≤ length table.now / 5 }
+// How many of n entries are of a row and follow one another from entry `first` on.
+fn entries_from<F: Fn(usize) -> u32>(n: usize, first: usize, row: u32, row_of: &F) -> usize
+    requires before { first ≤ n }
+    requires callable { (i : ℕ) → i < n → F.pre row_of.now i }
+    ensures value { (words : List ℕ) → RowsOf (F.post row_of.now) n words
+        → result ≡ run_of_row row (drop first (entries_of words)) }
+    ensures result_in_bounds { first + result ≤ n }
 {
-    let n = table.len() / 5;
-    let mut i = first;
-    while i < n {
-        if table[i * 5] != row {
+    for i in first..n {
+        if row_of(i) != row {
             return i - first;
         }
-        i += 1;
     }
     n - first
+}
+
+// The entries of a row among n entries, of which `row_of` tells each one's row: from the first entry of that row to the
+// next of another row.
+pub fn row_range<F: Fn(usize) -> u32>(n: usize, row: u32, row_of: &F) -> Range<usize>
+    requires { (i : ℕ) → i < n → F.pre row_of.now i }
+    ensures value { (words : List ℕ) → RowsOf (F.post row_of.now) n words → RangeOf words row result.start result.end }
+    ensures result_in_bounds { (result.start ≤ result.end) × (result.end ≤ n) }
+{
+    let first = entries_before(n, row, row_of);
+    let count = entries_from(n, first, row, row_of);
+    first..first + count
 }
 
 // The entries of a row, as the part of the lent table that holds them: from the first entry of that row to the next of
@@ -47,13 +59,9 @@ pub fn row_entries<'a>(table: &'a [u32], row: u32) -> &'a [u32]
     ensures place { result.ref_ptr ≡ words_on table.entry.ref_ptr (row_start table.now row) }
     ensures words { result.now ≡ row_part table.now row }
 {
-    let first = entries_before(table, row);
-    let count = entries_from(table, first, row);
-    if count == 0 {
-        let none: usize = 0;
-        return &table[none..none];
+    let entries = row_range(table.len() / 5, row, &|i| table[i * 5]);
+    if entries.is_empty() {
+        return &table[..0];
     }
-    let from = first * 5;
-    let end = (first + count) * 5;
-    &table[from..end]
+    &table[entries.start * 5..entries.end * 5]
 }

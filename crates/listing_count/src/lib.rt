@@ -11,8 +11,15 @@ ghost use Rattle.listing_count.specs.Parts.{value_at, values_from, start_of, ite
 ghost use Rattle.listing_count.specs.Parts.{frame_of, frames_text, passed_of, passed_text, listing_of};
 ghost use Rattle.listing_count.specs.Ample.{ample};
 
-use arrays::difference_usize;
 use limits::{CONDITIONS, LASTCLOCK};
+
+// How many processes, edges and conditions a plan has.
+#[derive(Clone, Copy)]
+pub struct Counts {
+    pub processes: usize,
+    pub edges: usize,
+    pub conditions: usize,
+}
 
 // How many decimal digits a number has.
 pub fn digits(n: u32) -> usize
@@ -56,9 +63,9 @@ fn value_room(room: usize, known: u32, values: u32, k: u32) -> usize
         return room;
     }
     if values % 2 == 0 {
-        return difference_usize(room, 9 + digits(k));
+        return room.saturating_sub(9 + digits(k));
     }
-    difference_usize(room, 8 + digits(k))
+    room.saturating_sub(8 + digits(k))
 }
 
 // The room after the conditions of a column.
@@ -68,15 +75,13 @@ fn values_room(room: usize, conditions: usize, known: u32, values: u32) -> usize
     let mut left = room;
     let mut x = known;
     let mut v = values;
-    let mut k: u32 = 0;
-    while x != 0 {
-        if conditions <= k as usize {
+    for k in 0..conditions {
+        left = value_room(left, x, v, k as u32);
+        x /= 2;
+        v /= 2;
+        if x == 0 {
             return left;
         }
-        left = value_room(left, x, v, k);
-        x = x / 2;
-        v = v / 2;
-        k += 1;
     }
     left
 }
@@ -86,7 +91,7 @@ fn start_room(room: usize, conditions: usize, row: u32, known: u32, values: u32,
     ensures { result ≡ room - length (start_of conditions row known values tick) }
 {
     let column = values_room(room, conditions, known, values);
-    difference_usize(column, 22 + digits(row) + digits(tick))
+    column.saturating_sub(22 + digits(row) + digits(tick))
 }
 
 // The room after the line of an edge or a condition: their first words are of one length.
@@ -102,32 +107,32 @@ fn item_room(
     ensures { result ≡ room - length (item_of (text "(send ") conditions number known values tick place) }
 {
     let column = values_room(room, conditions, known, values);
-    difference_usize(column, 30 + digits(number) + digits(tick) + digits(place))
+    column.saturating_sub(30 + digits(number) + digits(tick) + digits(place))
 }
 
 // The room after the line of an entry.
 fn entry_room(
     room: usize,
-    processes: usize,
-    edges: usize,
-    conditions: usize,
+    counts: Counts,
     row: u32,
     known: u32,
     values: u32,
     tick: u32,
     place: u32,
 ) -> usize
-    ensures { result ≡ room - length (entry_of processes edges conditions row known values tick place) }
+    ensures { result ≡ room - length (entry_of counts.processes counts.edges counts.conditions row known values tick
+        place) }
 {
+    let conditions = counts.conditions;
     let number = row as usize;
-    if number < processes {
+    if number < counts.processes {
         return start_room(room, conditions, row, known, values, tick);
     }
-    let edge = number - processes;
-    if edge < edges {
+    let edge = number - counts.processes;
+    if edge < counts.edges {
         return item_room(room, conditions, edge as u32, known, values, tick, place);
     }
-    let condition = edge - edges;
+    let condition = edge - counts.edges;
     if condition < conditions {
         return item_room(
             room,
@@ -143,31 +148,12 @@ fn entry_room(
 }
 
 // The room after the lines of a table.
-fn entries_room(
-    room: usize,
-    processes: usize,
-    edges: usize,
-    conditions: usize,
-    table: &[u32],
-) -> usize
-    ensures { result ≡ room - length (entries_text processes edges conditions table.now) }
+fn entries_room(room: usize, counts: Counts, table: &[u32]) -> usize
+    ensures { result ≡ room - length (entries_text counts.processes counts.edges counts.conditions table.now) }
 {
-    let n = table.len();
     let mut left = room;
-    let mut i: usize = 0;
-    while 4 < n - i {
-        left = entry_room(
-            left,
-            processes,
-            edges,
-            conditions,
-            table[i],
-            table[i + 1],
-            table[i + 2],
-            table[i + 3],
-            table[i + 4],
-        );
-        i += 5;
+    for e in table.chunks_exact(5) {
+        left = entry_room(left, counts, e[0], e[1], e[2], e[3], e[4]);
     }
     left
 }
@@ -176,19 +162,16 @@ fn entries_room(
 fn frame_room(room: usize, tick: u32, node: u32, used: u32) -> usize
     ensures { result ≡ room - length (frame_of tick node used) }
 {
-    difference_usize(room, 26 + digits(tick) + digits(node) + digits(used))
+    room.saturating_sub(26 + digits(tick) + digits(node) + digits(used))
 }
 
 // The room after the lines of a frame list.
 fn frames_room(room: usize, frames: &[u32]) -> usize
     ensures { result ≡ room - length (frames_text frames.now) }
 {
-    let n = frames.len();
     let mut left = room;
-    let mut i: usize = 0;
-    while 2 < n - i {
-        left = frame_room(left, frames[i], frames[i + 1], frames[i + 2]);
-        i += 3;
+    for f in frames.chunks_exact(3) {
+        left = frame_room(left, f[0], f[1], f[2]);
     }
     left
 }
@@ -197,7 +180,7 @@ fn frames_room(room: usize, frames: &[u32]) -> usize
 fn count_room(room: usize, node: u32, count: u32) -> usize
     ensures { result ≡ room - length (passed_of node count) }
 {
-    difference_usize(room, 18 + digits(node) + digits(count))
+    room.saturating_sub(18 + digits(node) + digits(count))
 }
 
 // The room after the passed lines of the nodes that these are the counts of, from node 0 on.
@@ -205,12 +188,9 @@ fn passed_room(room: usize, passed: &[u32]) -> usize
     requires { length passed.now ≤ NODES }
     ensures { result ≡ room - length (passed_text 0 passed.now) }
 {
-    let n = passed.len();
     let mut left = room;
-    let mut i: usize = 0;
-    while i < n {
-        left = count_room(left, i as u32, passed[i]);
-        i += 1;
+    for (i, &count) in passed.iter().enumerate() {
+        left = count_room(left, i as u32, count);
     }
     left
 }
@@ -218,40 +198,30 @@ fn passed_room(room: usize, passed: &[u32]) -> usize
 // The lent bytes suffice for any listing of so many words, at most a million of each kind, for a plan of at most eight
 // nodes and six conditions: an entry's line has at most 120 bytes, a frame's at most 56, the line of the delay at most
 // 19, that of a node at most 29. Where this answers no they may suffice all the same.
+#[tactic(auto, unfolding(crate::specs::Ample::ample, crate::specs::Parts::most_bytes))]
 fn suffice(lent: usize, conditions: usize, words: usize, framewords: usize) -> bool
     ensures { result ≡ ample lent conditions words framewords }
 {
-    if CONDITIONS < conditions {
-        return false;
-    }
-    if 1000000 < words {
-        return false;
-    }
-    if 1000000 < framewords {
-        return false;
-    }
-    if lent < 251 + 120 * (words / 5) + 56 * (framewords / 3) {
-        return false;
-    }
-    true
+    conditions <= CONDITIONS
+        && words <= 1000000
+        && framewords <= 1000000
+        && 251 + 120 * (words / 5) + 56 * (framewords / 3) <= lent
 }
 
 // A listing needs more bytes than are lent. It has a passed line for each of the counts.
 pub fn exceeds<'a>(
     lent: usize,
-    processes: usize,
-    edges: usize,
-    conditions: usize,
+    counts: Counts,
     delay: u32,
     passed: &'a [u32],
     table: &'a [u32],
     frames: &'a [u32],
 ) -> bool
     requires { length passed.now ≤ NODES }
-    ensures { result ≡ ltb lent (length (listing_of processes edges conditions delay passed.now
-        table.now frames.now)) }
+    ensures { result ≡ ltb lent (length (listing_of counts.processes counts.edges counts.conditions delay
+        passed.now table.now frames.now)) }
 {
-    if suffice(lent, conditions, table.len(), frames.len()) {
+    if suffice(lent, counts.conditions, table.len(), frames.len()) {
         return false;
     }
     let first = 9 + digits(delay);
@@ -259,8 +229,5 @@ pub fn exceeds<'a>(
         return true;
     }
     let room = passed_room(lent - first + 1, passed);
-    frames_room(
-        entries_room(room, processes, edges, conditions, table),
-        frames,
-    ) < 1
+    frames_room(entries_room(room, counts, table), frames) < 1
 }

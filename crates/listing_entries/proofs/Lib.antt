@@ -2,8 +2,6 @@
 pub mod SetCounts
 -- Laws of lines: LineEnds (how the lines of a row begin and end).
 pub mod LineEnds
--- Laws of runs: Standing (the tests of an entry), Leading (how many entries a run has), RunLines (what their lines are,
--- and the next line of one).
-pub mod Standing
+-- Laws of runs: Leading (how many entries a run has), RunLines (what their lines are, and the next line of one).
 pub mod Leading
 pub mod RunLines

@@ -1,5 +1,5 @@
 // The conditions of a column of a table's line, stored from a place on in lent bytes that have room for it.
-ghost use Rattle.std.specs.Prelude.{◌≡◌, ◌<◌};
+ghost use Rattle.std.specs.Prelude.{◌≡◌};
 ghost use Rattle.limits.specs.Limits.{CONDITIONS};
 ghost use Rattle.text_lines.specs.Put.{Put};
 ghost use Rattle.listing_bytes.specs.Fits.{Fits};
@@ -7,7 +7,7 @@ ghost use Rattle.listing_count.specs.Parts.{value_at, values_from};
 ghost use Rattle.listing_entries.specs.Sets.{sets_of};
 
 use limits::CONDITIONS;
-use listing_bytes::{put_digit, put_labelled, put_word};
+use listing_bytes::{put_labelled, put_word};
 
 // Stores condition k of a column, if it is known: the lowest bits of `known` and `values` are its.
 fn put_value(out: &mut [u8], at: usize, known: u32, values: u32, k: u32) -> usize
@@ -33,77 +33,46 @@ fn put_each(out: &mut [u8], at: usize, conditions: usize, known: u32, values: u3
     let mut end = at;
     let mut x = known;
     let mut v = values;
-    let mut k: u32 = 0;
-    while x != 0 {
-        if conditions <= k as usize {
+    for k in 0..conditions {
+        end = put_value(out, end, x, v, k as u32);
+        x /= 2;
+        v /= 2;
+        if x == 0 {
             return end;
         }
-        end = put_value(out, end, x, v, k);
-        x = x / 2;
-        v = v / 2;
-        k += 1;
     }
     end
 }
 
-// Stores condition k of a column, if it is known, where k is below ten: the lowest bits of `known` and `values` are
-// its.
-fn put_digit_value(out: &mut [u8], at: usize, known: u32, values: u32, k: u32) -> usize
-    requires { (k < 10) × Fits out.old at (value_at known values k) }
-    ensures { Put out.old out.new at result (value_at known values k) }
-{
-    if known % 2 == 0 {
-        return at;
-    }
-    if values % 2 == 0 {
-        let number = put_word(out, at, b" (false ");
-        let end = put_digit(out, number, k);
-        return put_word(out, end, b")");
-    }
-    let number = put_word(out, at, b" (true ");
-    let end = put_digit(out, number, k);
-    put_word(out, end, b")")
-}
-
-// Stores the conditions 0 to 5 of a column that are known.
+// Stores the conditions 0 to 5 of a column that are known. A loop over them would test how many digits each number has.
 fn put_six(out: &mut [u8], at: usize, known: u32, values: u32) -> usize
     requires { Fits out.old at (values_from CONDITIONS known values 0) }
     ensures { Put out.old out.new at result (values_from CONDITIONS known values 0) }
 {
-    let one = put_digit_value(out, at, known, values, 0);
-    let two = put_digit_value(out, one, known / 2, values / 2, 1);
-    let three = put_digit_value(out, two, known / 4, values / 4, 2);
-    let four = put_digit_value(out, three, known / 8, values / 8, 3);
-    let five = put_digit_value(out, four, known / 16, values / 16, 4);
-    put_digit_value(out, five, known / 32, values / 32, 5)
+    let one = put_value(out, at, known, values, 0);
+    let two = put_value(out, one, known / 2, values / 2, 1);
+    let three = put_value(out, two, known / 4, values / 4, 2);
+    let four = put_value(out, three, known / 8, values / 8, 3);
+    let five = put_value(out, four, known / 16, values / 16, 4);
+    put_value(out, five, known / 32, values / 32, 5)
 }
 
-// How many sets of known conditions a plan has, where it has at most six conditions; otherwise none.
+// How many sets of known conditions a plan has, where it has at most six conditions; otherwise none. By a
+// match: a shift was tried, and the compiler moves it into the loop over the lines.
+#[tactic(auto, unfolding(crate::specs::Sets::sets_of))]
 pub(crate) fn known_sets(conditions: usize) -> u32
     ensures { result ≡ sets_of conditions }
 {
-    if CONDITIONS < conditions {
-        return 0;
+    match conditions {
+        0 => 1,
+        1 => 2,
+        2 => 4,
+        3 => 8,
+        4 => 16,
+        5 => 32,
+        CONDITIONS => 64,
+        _ => 0,
     }
-    if conditions == 0 {
-        return 1;
-    }
-    if conditions == 1 {
-        return 2;
-    }
-    if conditions == 2 {
-        return 4;
-    }
-    if conditions == 3 {
-        return 8;
-    }
-    if conditions == 4 {
-        return 16;
-    }
-    if conditions == 5 {
-        return 32;
-    }
-    64
 }
 
 // Stores the known conditions of a column that the plan has, by how many sets of known conditions it has.

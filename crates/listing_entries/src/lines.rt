@@ -9,6 +9,7 @@ ghost use Rattle.listing_entries.specs.Lines.{begin_by, begin_of, end_of, line_a
 
 use crate::column::put_values;
 use listing_bytes::{put_digits, put_labelled, put_long, put_word};
+use listing_count::Counts;
 
 // Stores how a line begins, by its first word.
 fn put_begin(out: &mut [u8], label: &[u8], number: u32) -> usize
@@ -20,26 +21,20 @@ fn put_begin(out: &mut [u8], label: &[u8], number: u32) -> usize
 }
 
 // Stores how the lines of a row begin at the front of some bytes: nothing if the plan lacks the row.
-pub(crate) fn put_first(
-    out: &mut [u8],
-    processes: usize,
-    edges: usize,
-    conditions: usize,
-    row: u32,
-) -> usize
+pub(crate) fn put_first(out: &mut [u8], counts: Counts, row: u32) -> usize
     requires { 32 ≤ length out.old }
-    ensures { Put out.old out.new 0 result (begin_of processes edges conditions row) }
+    ensures { Put out.old out.new 0 result (begin_of counts.processes counts.edges counts.conditions row) }
 {
     let number = row as usize;
-    if number < processes {
+    if number < counts.processes {
         return put_begin(out, b"(start ", row);
     }
-    let edge = number - processes;
-    if edge < edges {
+    let edge = number - counts.processes;
+    if edge < counts.edges {
         return put_begin(out, b"(send ", edge as u32);
     }
-    let condition = edge - edges;
-    if condition < conditions {
+    let condition = edge - counts.edges;
+    if condition < counts.conditions {
         return put_begin(out, b"(tell ", condition as u32);
     }
     0

@@ -20,7 +20,8 @@ use Rattle.listing_grammar.proofs.Whole.{states_read, read_states, reading as pl
 use Rattle.listing_scanner.specs.declared.entries.Counts.{Counts}
 use Rattle.listing_reader.specs.Answer.{Counted, SomePlan, answer_of, ReadsListing}
 use Rattle.listing_reader.specs.Runs.{reading, Lines-stated}
-use Rattle.listing_reader.specs.declared.reader.ListingRead.TheVariants as Answers
+use Rattle.std.specs.Prelude.{Ok, Err}
+use Rattle.refusals.specs.declared.Refusal.TheVariants as refusal
 use Rattle.listing_reader.specs.declared.reader.Stated.{Stated}
 
 -- counts that some plan has are small
@@ -76,16 +77,16 @@ module _ (p : Lines) (fine : plan_refusal p ≡ nothing) {slots processes edges 
   same_reading text = λ i. read_listing (k.its_slots i) (k.its_processes i) (k.its_edges i) (k.its_conditions i) text
 
   module _ {text table frames passed : List ℕ} where
-    pub refused_for : {n : ℕ} → n ≡ 21 → reading counts text ≡ no_reading → ReadsListing p text (Answers.Refused n) table frames passed table frames passed
+    pub refused_for : reading counts text ≡ no_reading → ReadsListing p text (Err refusal.ListingText) table frames passed table frames passed
     unfolding answer_of listed_words listed_frames listed_counts
-    refused_for e h =
+    refused_for h =
         record {
           reading = not_listed 21;
           of_text = no_listing (λ r m.
               let z : no_reading ≡ read r = sym h ∙ same_reading text ∙ states_read p fine m in
               let y : ◌≡◌ {A = ℕ} 0 1 = cc in
               omega arith);
-          answer = ap Answers.Refused e;
+          answer = refl;
           words = refl;
           frame_words = refl;
           counts = refl;
@@ -96,7 +97,7 @@ module _ (p : Lines) (fine : plan_refusal p ≡ nothing) {slots processes edges 
         s.words ≤ length table → s.framewords ≤ length frames → slots ≤ length passed →
         table-now ≡ sets table 0 (slice 0 (0 + s.words) part) → frames-now ≡ sets frames 0 (slice 0 (0 + s.framewords) frame-part) →
         passed-now ≡ sets passed 0 (slice 0 (0 + slots) count-part) →
-        ReadsListing p text (Answers.Stated s) table frames passed table-now frames-now passed-now
+        ReadsListing p text (Ok s) table frames passed table-now frames-now passed-now
     unfolding listed_words listed_frames listed_counts
     stated_for {own} {own_frames} {own_counts} h room frame-room count_room e f g =
         record {

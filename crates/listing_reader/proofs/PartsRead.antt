@@ -5,6 +5,7 @@ use mathlib.Core.Path.{◌≡◌, refl, ap, sym, ◌∙◌}
 use mathlib.Core.Bool.{Bool, true, false, false≢true, ◌&&◌}
 use mathlib.Core.List.{List, [], ◌∷◌}
 use native.Mathlib.Omega.{arith}
+use Rattle.std.specs.Prelude.{Some, Ok}
 use borrow.Author.Tests.{leb-true}
 use lib.Dec.{leb}
 use lib.ListN.{length, drop, drop_of_length-le}
@@ -22,7 +23,6 @@ use Rattle.listing_grammar.specs.Parse.{passed_at, listing_at, no_reading, in_fo
 use Rattle.listing_scanner.specs.declared.entries.Counts.{Counts}
 use Rattle.listing_reader.specs.Answer.{answer_of}
 use Rattle.listing_reader.specs.Runs.{CountsFound, entries_at, frames_at, entries_in_form, frames_in_form, Found, Formless, reading, LinesRead}
-use Rattle.listing_reader.specs.declared.reader.ListingRead.TheVariants as Answers
 
 not_in_form : (q : Parsed Result) → ((r : Result) (rest : List ℕ) → q ≡ got r rest → in_form r ≡ false) → to_end q ≡ no_reading
 unfolding to_end
@@ -100,7 +100,7 @@ module _ (counts : Counts) {text : List ℕ} where
           more_follows h = rw (to_last, drop-cons text end 0 h)
 
           pub whole_listing : length text ≤ end →
-              LinesRead text counts table frames passed table-now frames-now passed-now (Answers.Stated (record { words = 5 * count; framewords = 3 * used; delay = d }))
+              LinesRead text counts table frames passed table-now frames-now passed-now (Some (record { words = 5 * count; framewords = 3 * used; delay = d }))
           unfolding read_listing to_end in_form answer_of
           whole_listing h =
               let es = entries.lines in
@@ -113,7 +113,7 @@ module _ (counts : Counts) {text : List ℕ} where
               record {
                 states = said es fs;
                 of_text = rw (to_last, drop_of_length-le text {i = end} h, e.0, e.1, last.form);
-                answer = λ i. Answers.Stated (record { words = a i; framewords = b i; delay = d });
+                answer = λ i. Ok (record { words = a i; framewords = b i; delay = d });
                 few_words = omega (arith, entries.all);
                 few_framewords = omega (arith, last.all);
                 words = entries.held;

@@ -1,7 +1,7 @@
 -- The passed lines read into numbers, the lines of entries and of frames read into words, and the whole listing, in the
 -- words of the grammar.
 -- Assumes nothing.
-use Rattle.std.specs.Prelude.{ℕ, ◌≤◌, ◌≡◌, Bool, true, false, ◌&&◌, List, leb, length, drop}
+use Rattle.std.specs.Prelude.{ℕ, ◌≤◌, ◌≡◌, Bool, true, false, ◌&&◌, List, leb, length, drop, Option, None, Some, Ok}
 use Rattle.limits.specs.Limits.{PRINTEDENTRIES, PRINTEDFRAMES, PRINTEDWORDS, PRINTEDFRAMEWORDS}
 use Rattle.lists.specs.Front.{front}
 use Rattle.model.specs.Table.{Entry, Frame, Result, entry_words, frame_words}
@@ -9,14 +9,6 @@ use Rattle.model.specs.ListingText.{rows_in_order, listed}
 use Rattle.text_grammar.specs.Parse.{Parsed, none, got, run_at}
 use Rattle.listing_grammar.specs.Parse.{entry_at, frame_at, passed_at, Read, no_reading, read, read_listing}
 use Rattle.listing_scanner.specs.declared.entries.Counts.{Counts}
-use Rattle.listing_reader.specs.declared.entries.EntriesAt.{EntriesAt}
-use Rattle.listing_reader.specs.declared.entries.EntriesAt.TheVariants as E
-use Rattle.listing_reader.specs.declared.frames.FramesAt.{FramesAt}
-use Rattle.listing_reader.specs.declared.frames.FramesAt.TheVariants as F
-use Rattle.listing_reader.specs.declared.passed.PassedAt.{PassedAt}
-use Rattle.listing_reader.specs.declared.passed.PassedAt.TheVariants as P
-use Rattle.listing_reader.specs.declared.reader.ListingRead.{ListingRead}
-use Rattle.listing_reader.specs.declared.reader.ListingRead.TheVariants as Answers
 use Rattle.listing_reader.specs.declared.reader.Stated.{Stated}
 use Rattle.listing_reader.specs.Answer.{answer_of}
 
@@ -29,9 +21,9 @@ pub record CountsFound (text : List ℕ) (at slots : ℕ) (before after : List �
   pub held : after ≡ front counts before
 
 -- what the answer for the passed lines says
-abbrev pub PassedRead : List ℕ → ℕ → ℕ → List ℕ → List ℕ → PassedAt → Type 0
-PassedRead text at slots before after (P.Got next) = CountsFound text at slots before after next
-PassedRead text at slots before after P.No = passed_at 0 slots (drop at text) ≡ none
+abbrev pub PassedRead : List ℕ → ℕ → ℕ → List ℕ → List ℕ → Option ℕ → Type 0
+PassedRead text at slots before after (Some next) = CountsFound text at slots before after next
+PassedRead text at slots before after None = passed_at 0 slots (drop at text) ≡ none
 
 -- the lines of entries, and of frames, that follow
 abbrev pub entries_at : Counts → List ℕ → Parsed (List Entry)
@@ -62,15 +54,15 @@ abbrev pub Formless : {A : Type 0} → (List ℕ → Parsed (List A)) → (List 
 Formless {A} run in_form text at = (xs : List A) (rest : List ℕ) → run (drop at text) ≡ got xs rest → in_form xs ≡ false
 
 -- what the answers for entries and for frames say
-abbrev pub EntriesRead : List ℕ → ℕ → Counts → List ℕ → List ℕ → EntriesAt → Type 0
-EntriesRead text at counts before after (E.Got count next) =
-    Found (entries_at counts) entries_in_form entry_words text at before after count next
-EntriesRead text at counts before after E.No = Formless (entries_at counts) entries_in_form text at
+abbrev pub EntriesRead : List ℕ → ℕ → Counts → List ℕ → List ℕ → Option (ℕ × ℕ) → Type 0
+EntriesRead text at counts before after (Some r) =
+    Found (entries_at counts) entries_in_form entry_words text at before after r.0 r.1
+EntriesRead text at counts before after None = Formless (entries_at counts) entries_in_form text at
 
-abbrev pub FramesRead : List ℕ → ℕ → List ℕ → List ℕ → FramesAt → Type 0
-FramesRead text at before after (F.Got count next) =
-    Found frames_at frames_in_form frame_words text at before after count next
-FramesRead text at before after F.No = Formless frames_at frames_in_form text at
+abbrev pub FramesRead : List ℕ → ℕ → List ℕ → List ℕ → Option (ℕ × ℕ) → Type 0
+FramesRead text at before after (Some r) =
+    Found frames_at frames_in_form frame_words text at before after r.0 r.1
+FramesRead text at before after None = Formless frames_at frames_in_form text at
 
 -- what the grammar reads of the whole text
 abbrev pub reading : Counts → List ℕ → Read
@@ -82,7 +74,7 @@ pub record Lines-stated (text : List ℕ) (counts : Counts) (table frames passed
     (s : Stated) : Type 0 where
   pub states : Result
   pub of_text : reading counts text ≡ read states
-  pub answer : Answers.Stated s ≡ answer_of (listed states)
+  pub answer : Ok s ≡ answer_of (listed states)
   pub few_words : s.words ≤ PRINTEDWORDS
   pub few_framewords : s.framewords ≤ PRINTEDFRAMEWORDS
   pub words : table-now ≡ front (entry_words states.entries) table
@@ -90,9 +82,9 @@ pub record Lines-stated (text : List ℕ) (counts : Counts) (table frames passed
   pub for_each : length states.passed ≡ counts.slots
   pub counted : passed-now ≡ front states.passed passed
 
--- what the answer for the whole says: nothing is read where it is 21
-abbrev pub LinesRead : List ℕ → Counts → List ℕ → List ℕ → List ℕ → List ℕ → List ℕ → List ℕ → ListingRead → Type 0
-LinesRead text counts table frames passed table-now frames-now passed-now (Answers.Stated s) =
+-- what the answer for the whole says: nothing is read where there is none
+abbrev pub LinesRead : List ℕ → Counts → List ℕ → List ℕ → List ℕ → List ℕ → List ℕ → List ℕ → Option Stated → Type 0
+LinesRead text counts table frames passed table-now frames-now passed-now (Some s) =
     Lines-stated text counts table frames passed table-now frames-now passed-now s
-LinesRead text counts table frames passed table-now frames-now passed-now (Answers.Refused n) =
-    (n ≡ 21) × (reading counts text ≡ no_reading)
+LinesRead text counts table frames passed table-now frames-now passed-now None =
+    reading counts text ≡ no_reading

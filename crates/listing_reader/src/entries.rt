@@ -7,14 +7,7 @@ ghost use Rattle.listing_scanner.specs.Lines.{entry_of, Few};
 ghost use Rattle.listing_reader.specs.Runs.{EntriesRead};
 
 use limits::{PRINTEDENTRIES, PRINTEDWORDS};
-use listing_scanner::{Counts, Entry, EntryAt, entry_line};
-
-// How many entries were read and the position behind them, or that the listing is not of its form.
-#[derive(Clone, Copy)]
-pub enum EntriesAt {
-    Got(usize, usize),
-    No,
-}
+use listing_scanner::{Counts, Entry, entry_line};
 
 // Stores the five words of an entry from place `at` on.
 fn put_entry(e: Entry, table: &mut [u32; PRINTEDWORDS], at: usize)
@@ -28,33 +21,31 @@ fn put_entry(e: Entry, table: &mut [u32; PRINTEDWORDS], at: usize)
     table[at + 4] = e.place;
 }
 
-// Reads the lines of entries from `at` on as words. The listing is not of its form where a row stands behind a later
-// one, or where there are more than 3,000 entries.
+// Reads the lines of entries from `at` on as words: how many there are, and the position behind them. The listing is
+// not of its form where a row stands behind a later one, or where there are more than 3,000 entries.
 pub(crate) fn read_entries(
     text: &[u8],
     at: usize,
     counts: Counts,
     table: &mut [u32; PRINTEDWORDS],
-) -> EntriesAt
+) -> Option<(usize, usize)>
     requires { (at ≤ length text.now) × Few counts × (length table.old ≡ PRINTEDWORDS) }
     ensures { EntriesRead text.now at counts table.old table.new result }
 {
     let mut next = at;
     let mut count: usize = 0;
     let mut row: u32 = 0;
-    loop {
-        let EntryAt::Got(e, i) = entry_line(text, next, counts) else {
-            return EntriesAt::Got(count, next);
-        };
+    while let Some((e, i)) = entry_line(text, next, counts) {
         if e.row < row {
-            return EntriesAt::No;
+            return None;
         }
         if PRINTEDENTRIES <= count {
-            return EntriesAt::No;
+            return None;
         }
         put_entry(e, table, 5 * count);
         row = e.row;
         count += 1;
         next = i;
     }
+    Some((count, next))
 }

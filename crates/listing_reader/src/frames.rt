@@ -7,14 +7,7 @@ ghost use Rattle.listing_scanner.specs.Lines.{frame_of};
 ghost use Rattle.listing_reader.specs.Runs.{FramesRead};
 
 use limits::{PRINTEDFRAMES, PRINTEDFRAMEWORDS};
-use listing_scanner::{Frame, FrameAt, frame_line};
-
-// How many frames were read and the position behind them, or that there are more than 2,000.
-#[derive(Clone, Copy)]
-pub enum FramesAt {
-    Got(usize, usize),
-    No,
-}
+use listing_scanner::{Frame, frame_line};
 
 // Stores the three words of a frame from place `at` on.
 fn put_frame(f: Frame, frames: &mut [u32; PRINTEDFRAMEWORDS], at: usize)
@@ -26,22 +19,25 @@ fn put_frame(f: Frame, frames: &mut [u32; PRINTEDFRAMEWORDS], at: usize)
     frames[at + 2] = f.used;
 }
 
-// Reads the lines of frames from `at` on as words. The listing is not of its form where there are more than 2,000.
-pub(crate) fn read_frames(text: &[u8], at: usize, frames: &mut [u32; PRINTEDFRAMEWORDS]) -> FramesAt
+// Reads the lines of frames from `at` on as words: how many there are, and the position behind them. The listing is not
+// of its form where there are more than 2,000.
+pub(crate) fn read_frames(
+    text: &[u8],
+    at: usize,
+    frames: &mut [u32; PRINTEDFRAMEWORDS],
+) -> Option<(usize, usize)>
     requires { (at ≤ length text.now) × (length frames.old ≡ PRINTEDFRAMEWORDS) }
     ensures { FramesRead text.now at frames.old frames.new result }
 {
     let mut next = at;
     let mut count: usize = 0;
-    loop {
-        let FrameAt::Got(f, i) = frame_line(text, next) else {
-            return FramesAt::Got(count, next);
-        };
+    while let Some((f, i)) = frame_line(text, next) {
         if PRINTEDFRAMES <= count {
-            return FramesAt::No;
+            return None;
         }
         put_frame(f, frames, 3 * count);
         count += 1;
         next = i;
     }
+    Some((count, next))
 }

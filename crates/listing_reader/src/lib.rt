@@ -8,4 +8,4 @@ mod frames;
 mod passed;
 mod reader;
 
-pub use reader::{ListingRead, Stated, read_listing};
+pub use reader::{Stated, read_listing};

@@ -7,13 +7,14 @@ ghost use Rattle.listing_scanner.specs.Lines.{Few};
 ghost use Rattle.listing_reader.specs.Answer.{Counted, SomePlan, ReadsListing};
 ghost use Rattle.listing_reader.specs.Runs.{LinesRead};
 
-use crate::entries::{EntriesAt, read_entries};
-use crate::frames::{FramesAt, read_frames};
-use crate::passed::{PassedAt, read_passed};
+use crate::entries::read_entries;
+use crate::frames::read_frames;
+use crate::passed::read_passed;
 use arrays::copy_part;
 use limits::{NODES, PRINTEDFRAMEWORDS, PRINTEDWORDS};
 use listing_scanner::Counts;
-use text_scanner::{NumberAt, closed};
+use refusals::Refusal;
+use text_scanner::closed;
 
 // What a listing states: how many words its entries and its frames have, and its delay. These words, and the counts of
 // its passed lines, stand in what the caller lends.
@@ -24,42 +25,28 @@ pub struct Stated {
     pub delay: u32,
 }
 
-// What a listing text is read as: what it states, or a refusal.
-#[derive(Clone, Copy)]
-pub enum ListingRead {
-    Stated(Stated),
-    Refused(u32),
-}
-
-// Reads the lines of a listing: its entries and its frames as words, and the counts of its passed lines.
+// Reads the lines of a listing: its entries and its frames as words, and the counts of its passed lines. None where the
+// listing is not of its form.
 fn read_lines(
     text: &[u8],
     counts: Counts,
     table: &mut [u32; PRINTEDWORDS],
     frames: &mut [u32; PRINTEDFRAMEWORDS],
     passed: &mut [u32; NODES],
-) -> ListingRead
+) -> Option<Stated>
     requires { Few counts × (length table.old ≡ PRINTEDWORDS) × (length frames.old ≡ PRINTEDFRAMEWORDS)
         × (length passed.old ≡ NODES) }
     ensures { LinesRead text.now counts table.old frames.old
         passed.old table.new frames.new passed.new result }
 {
-    let NumberAt::Got(delay, i) = closed(text, 0, b"(delay ", b"\n") else {
-        return ListingRead::Refused(21);
-    };
-    let PassedAt::Got(j) = read_passed(text, i, counts.slots, passed) else {
-        return ListingRead::Refused(21);
-    };
-    let EntriesAt::Got(entries, k) = read_entries(text, j, counts, table) else {
-        return ListingRead::Refused(21);
-    };
-    let FramesAt::Got(used, end) = read_frames(text, k, frames) else {
-        return ListingRead::Refused(21);
-    };
+    let (delay, i) = closed(text, 0, b"(delay ", b"\n")?;
+    let j = read_passed(text, i, counts.slots, passed)?;
+    let (entries, k) = read_entries(text, j, counts, table)?;
+    let (used, end) = read_frames(text, k, frames)?;
     if end < text.len() {
-        return ListingRead::Refused(21);
+        return None;
     }
-    ListingRead::Stated(Stated {
+    Some(Stated {
         words: 5 * entries,
         framewords: 3 * used,
         delay,
@@ -81,7 +68,7 @@ pub fn read_listing(
     table: &mut [u32],
     frames: &mut [u32],
     passed: &mut [u32; NODES],
-) -> ListingRead
+) -> Result<Stated, Refusal>
     requires fact_1 { SomePlan slots processes edges conditions }
     requires fact_2 { (PRINTEDWORDS ≤ length table.old) × (PRINTEDFRAMEWORDS ≤ length frames.old) }
     ensures { (p : Lines) → plan_refusal p ≡ nothing → Counted p slots processes edges conditions →
@@ -97,14 +84,11 @@ pub fn read_listing(
     let mut entrywords = [1u32; PRINTEDWORDS];
     let mut framewords = [1u32; PRINTEDFRAMEWORDS];
     let mut counted = [1u32; NODES];
-    let read = read_lines(text, counts, &mut entrywords, &mut framewords, &mut counted);
-    match read {
-        ListingRead::Refused(n) => ListingRead::Refused(n),
-        ListingRead::Stated(s) => {
-            copy_part(&entrywords, 0, s.words, table);
-            copy_part(&framewords, 0, s.framewords, frames);
-            copy_part(&counted, 0, slots, passed);
-            ListingRead::Stated(s)
-        }
-    }
+    let Some(s) = read_lines(text, counts, &mut entrywords, &mut framewords, &mut counted) else {
+        return Err(Refusal::ListingText);
+    };
+    copy_part(&entrywords, 0, s.words, table);
+    copy_part(&framewords, 0, s.framewords, frames);
+    copy_part(&counted, 0, slots, passed);
+    Ok(s)
 }

@@ -1,16 +1,14 @@
 -- What the answers for a column stand for.
 -- Assumes nothing.
-use Rattle.std.specs.Prelude.{ℕ, ◌+◌, ◌*◌, ◌≤◌, ◌≡◌, List, length, drop}
+use Rattle.std.specs.Prelude.{ℕ, ◌+◌, ◌*◌, ◌≤◌, ◌≡◌, List, length, drop, Option, None, Some}
 use Rattle.text_grammar.specs.Parse.{none, got}
 use Rattle.listing_grammar.specs.Parse.{Column, name_at}
 use Rattle.text_scanner.specs.Place.{Place, nowhere, found}
-use Rattle.listing_scanner.specs.declared.columns.ColumnAt.{ColumnAt}
-use Rattle.listing_scanner.specs.declared.columns.ColumnAt.TheVariants as C
 use Rattle.listing_scanner.specs.declared.columns.ColumnSofar.{ColumnSofar}
 
-abbrev pub column : ColumnAt → Place Column
-column (C.Got k v i) = found (record { known = k; values = v }) i
-column C.No = nowhere
+abbrev pub column : Option ColumnSofar → Place Column
+column None = nowhere
+column (Some s) = found (record { known = s.known; values = s.values }) s.at
 
 -- what a column is once condition k is read: as it was where k is not named, or with its bit and its value
 pub data Stepped (text : List ℕ) (k bit : ℕ) (s r : ColumnSofar) : Type 0 where

@@ -5,16 +5,9 @@ ghost use Rattle.listing_grammar.specs.Parse.{name_at, column_at};
 ghost use Rattle.text_scanner.specs.Place.{Scanned, number};
 ghost use Rattle.listing_scanner.specs.Columns.{column, Stepped};
 
-use text_scanner::{NumberAt, WordAt, field, word};
+use text_scanner::{field, word};
 
-// Known bits, their values and the position behind the column, or that none stands there.
-#[derive(Clone, Copy)]
-pub enum ColumnAt {
-    Got(u32, u32, usize),
-    No,
-}
-
-// A column as far as it is read: known bits, their values, and the position.
+// A column, whole or as far as it is read: known bits, their values, and the position behind it.
 #[derive(Clone, Copy)]
 pub struct ColumnSofar {
     pub known: u32,
@@ -23,23 +16,21 @@ pub struct ColumnSofar {
 }
 
 // Condition k named at `at`, with its value.
-fn name(text: &[u8], at: usize, k: u32) -> NumberAt
+fn name(text: &[u8], at: usize, k: u32) -> Option<(u32, usize)>
     requires { at ≤ length text.now }
     ensures { Scanned text.now (number result) (name_at k (drop at text.now)) }
 {
-    if let NumberAt::Got(n, i) = field(text, at, b" (true ") {
+    if let Some((n, i)) = field(text, at, b" (true ") {
         if n == k {
-            return NumberAt::Got(1, i);
+            return Some((1, i));
         }
-        return NumberAt::No;
+        return None;
     }
-    if let NumberAt::Got(n, i) = field(text, at, b" (false ") {
-        if n == k {
-            return NumberAt::Got(0, i);
-        }
-        return NumberAt::No;
+    let (n, i) = field(text, at, b" (false ")?;
+    if n == k {
+        return Some((0, i));
     }
-    NumberAt::No
+    None
 }
 
 // The column once condition k is read, whose bit is `bit`: named, or not.
@@ -48,7 +39,7 @@ fn step(text: &[u8], s: ColumnSofar, k: u32, bit: u32) -> ColumnSofar
     ensures { Stepped text.now k bit s result }
 {
     let at = s.at;
-    let NumberAt::Got(v, i) = name(text, at, k) else {
+    let Some((v, i)) = name(text, at, k) else {
         return s;
     };
     ColumnSofar {
@@ -59,28 +50,21 @@ fn step(text: &[u8], s: ColumnSofar, k: u32, bit: u32) -> ColumnSofar
 }
 
 // The column at `at` and the bracket behind it, for a plan of at most six conditions.
-pub(crate) fn column(text: &[u8], at: usize, conditions: u32) -> ColumnAt
+pub(crate) fn column(text: &[u8], at: usize, conditions: u32) -> Option<ColumnSofar>
     requires { (at ≤ length text.now) × (conditions ≤ CONDITIONS) }
     ensures { Scanned text.now (column result) (column_at conditions (drop at text.now)) }
 {
-    let WordAt::Got(first) = word(text, at, b"(when") else {
-        return ColumnAt::No;
-    };
+    let first = word(text, at, b"(when")?;
     let mut s = ColumnSofar {
         known: 0,
         values: 0,
         at: first,
     };
     let mut bit: u32 = 1;
-    let mut k: u32 = 0;
-    while k < conditions {
+    for k in 0u32..conditions {
         s = step(text, s, k, bit);
         bit = bit * 2;
-        k += 1;
     }
-    let i = s.at;
-    let WordAt::Got(end) = word(text, i, b")") else {
-        return ColumnAt::No;
-    };
-    ColumnAt::Got(s.known, s.values, end)
+    s.at = word(text, s.at, b")")?;
+    Some(s)
 }

@@ -8,6 +8,6 @@ mod entries;
 mod frames;
 mod passed;
 
-pub use entries::{Counts, Entry, EntryAt, entry_line};
-pub use frames::{Frame, FrameAt, frame_line};
+pub use entries::{Counts, Entry, entry_line};
+pub use frames::{Frame, frame_line};
 pub use passed::count_line;

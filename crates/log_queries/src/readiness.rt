@@ -5,7 +5,7 @@ ghost use Rattle.limits.specs.Limits.{PROCESSES, EDGES};
 ghost use Rattle.lists.specs.Lists.{all};
 ghost use Rattle.plan_index.specs.Index.{laid, Bounded};
 ghost use Rattle.log_rows.specs.Rows.{rows_of};
-ghost use Rattle.log_queries.specs.Reading.{within, bit};
+ghost use Rattle.log_queries.specs.Reading.{within};
 ghost use Rattle.log_queries.specs.Queries.{edges_at, is_sendable, has_delivered, never_delivers, settles};
 ghost use Rattle.log_queries.specs.Queries.{is_ready};
 
@@ -19,10 +19,7 @@ use plan_index::{
 pub fn came(x: u32, u: u32) -> bool
     ensures { result ≡ within x u }
 {
-    if x == 0 {
-        return false;
-    }
-    x <= u
+    x != 0 && x <= u
 }
 
 // The message of edge e is ready: its sender has ended, and its `when` is known to be met.
@@ -33,10 +30,7 @@ pub fn message_ready(index: &Index, rows: &Rows, e: usize, u: u32) -> bool
     if unmet_of(rows, e) != 0 {
         return false;
     }
-    if !came(comes_of(rows, from_of(index, e)), u) {
-        return false;
-    }
-    came(comes_of(rows, knownby_of(index, e)), u)
+    came(comes_of(rows, from_of(index, e)), u) && came(comes_of(rows, knownby_of(index, e)), u)
 }
 
 // Edge e has delivered: a local one when it is ready, another when its message has arrived.
@@ -55,13 +49,8 @@ pub(crate) fn never(index: &Index, rows: &Rows, e: usize, u: u32) -> bool
     requires { (e < EDGES) × Bounded (laid index.now) }
     ensures { result ≡ never_delivers (laid index.now) (rows_of rows.now) u e }
 {
-    if run_of(rows, from_of(index, e)) == 0 {
-        return true;
-    }
-    if unmet_of(rows, e) == 0 {
-        return false;
-    }
-    came(comes_of(rows, knownby_of(index, e)), u)
+    run_of(rows, from_of(index, e)) == 0
+        || unmet_of(rows, e) != 0 && came(comes_of(rows, knownby_of(index, e)), u)
 }
 
 // Every edge of into[a .. b] has delivered.
@@ -70,12 +59,10 @@ fn all_delivered(index: &Index, rows: &Rows, a: usize, b: usize, u: u32) -> bool
     ensures { result ≡ all (has_delivered (laid index.now) (rows_of rows.now) u)
         (edges_at (laid index.now) a b) }
 {
-    let mut j = a;
-    while j < b {
+    for j in a..b {
         if !delivered(index, rows, into_of(index, j), u) {
             return false;
         }
-        j += 1;
     }
     true
 }
@@ -86,18 +73,14 @@ fn any_delivered(index: &Index, rows: &Rows, a: usize, b: usize, u: u32) -> bool
     ensures { result ≡ settles (laid index.now) (rows_of rows.now) u
         (edges_at (laid index.now) a b) }
 {
-    let mut j = a;
     let mut some = false;
-    while j < b {
+    for j in a..b {
         let e = into_of(index, j);
         if delivered(index, rows, e, u) {
             some = true;
-        } else {
-            if !never(index, rows, e, u) {
-                return false;
-            }
+        } else if !never(index, rows, e, u) {
+            return false;
         }
-        j += 1;
     }
     some
 }
@@ -114,14 +97,4 @@ pub fn ready(index: &Index, rows: &Rows, i: usize, u: u32) -> bool
         return all_delivered(index, rows, a, b, u);
     }
     any_delivered(index, rows, a, b, u)
-}
-
-// 1 for true, 0 for false.
-pub(crate) fn number(b: bool) -> u32
-    ensures { (result ≡ bit b) × (result ≤ 1) }
-{
-    if b {
-        return 1;
-    }
-    0
 }

@@ -5,8 +5,7 @@ ghost use Rattle.limits.specs.Limits.{CONDITIONS, PROCESSES};
 ghost use Rattle.log_rows.specs.Rows.{rows_of};
 ghost use Rattle.log_queries.specs.Reading.{known_by, last_end_by};
 
-use crate::readiness::{came, number};
-use arrays::greater;
+use crate::readiness::came;
 use bitset::with_bit;
 use limits::CONDITIONS;
 use log_rows::{Rows, comes_of};
@@ -16,12 +15,12 @@ fn six_known(rows: &[u32], base: usize, u: u32) -> u32
     requires { base + CONDITIONS ≤ length rows.now }
     ensures { (result ≡ known_by rows.now base CONDITIONS u) × (result < 64) }
 {
-    let a = number(came(rows[base], u));
-    let b = number(came(rows[base + 1], u));
-    let c = number(came(rows[base + 2], u));
-    let d = number(came(rows[base + 3], u));
-    let e = number(came(rows[base + 4], u));
-    let f = number(came(rows[base + 5], u));
+    let a = u32::from(came(rows[base], u));
+    let b = u32::from(came(rows[base + 1], u));
+    let c = u32::from(came(rows[base + 2], u));
+    let d = u32::from(came(rows[base + 3], u));
+    let e = u32::from(came(rows[base + 4], u));
+    let f = u32::from(came(rows[base + 5], u));
     a + b * 2 + c * 4 + d * 8 + e * 16 + f * 32
 }
 
@@ -35,9 +34,7 @@ pub fn known(rows: &[u32], base: usize, conditions: usize, u: u32) -> u32
         return six_known(rows, base, u);
     }
     let mut mask: u32 = 0;
-    let mut k = conditions;
-    while 0 < k {
-        k -= 1;
+    for k in (0..conditions).rev() {
         mask = with_bit(mask, came(rows[base + k], u));
     }
     mask
@@ -50,13 +47,8 @@ pub fn last_end(rows: &Rows, processes: usize) -> u32
     ensures { result ≡ last_end_by (rows_of rows.now).comes processes }
 {
     let mut most: u32 = 0;
-    let mut i: usize = 0;
-    while i < processes {
-        most = greater(most, comes_of(rows, i));
-        i += 1;
+    for i in 0..processes {
+        most = most.max(comes_of(rows, i));
     }
-    if most == 0 {
-        return 0;
-    }
-    most - 1
+    most.saturating_sub(1)
 }

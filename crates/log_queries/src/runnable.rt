@@ -6,7 +6,7 @@ ghost use Rattle.plan_index.specs.Index.{laid, Bounded};
 ghost use Rattle.log_rows.specs.Rows.{rows_of, with_run};
 ghost use Rattle.log_queries.specs.Queries.{edges_at, may_carry, may_run_in, running, running_from};
 
-use crate::readiness::{never, number};
+use crate::readiness::never;
 use limits::PROCESSES;
 use log_rows::{RUN_AT, Rows, put_run};
 use plan_index::{Index, asany_of, into_of, intofirst_of, processes_of};
@@ -17,12 +17,10 @@ fn all_carry(index: &Index, rows: &Rows, a: usize, b: usize, u: u32) -> bool
     ensures { result ≡ all (may_carry (laid index.now) (rows_of rows.now) u)
         (edges_at (laid index.now) a b) }
 {
-    let mut j = a;
-    while j < b {
+    for j in a..b {
         if never(index, rows, into_of(index, j), u) {
             return false;
         }
-        j += 1;
     }
     true
 }
@@ -33,17 +31,15 @@ fn any_carry(index: &Index, rows: &Rows, a: usize, b: usize, u: u32) -> bool
     ensures { result ≡ any (may_carry (laid index.now) (rows_of rows.now) u)
         (edges_at (laid index.now) a b) }
 {
-    let mut j = a;
-    while j < b {
+    for j in a..b {
         if !never(index, rows, into_of(index, j), u) {
             return true;
         }
-        j += 1;
     }
     false
 }
 
-// Process i may run, by what may run of the processes before.
+// Process i may run, by what may run of the processes before. (Not one with `ready`: closures are no plainer.)
 fn runs(index: &Index, rows: &Rows, i: usize, u: u32) -> bool
     requires { (i < PROCESSES) × Bounded (laid index.now) }
     ensures { result ≡ may_run_in (laid index.now) (rows_of rows.now) u i }
@@ -61,11 +57,7 @@ fn clear_run(rows: &mut [u32])
     requires { PROCESSES ≤ length rows.old }
     ensures { rows_of rows.new ≡ with_run (replicate 64 0) (rows_of rows.old) }
 {
-    let mut i: usize = 0;
-    while i < PROCESSES {
-        rows[RUN_AT + i] = 0;
-        i += 1;
-    }
+    rows[RUN_AT..RUN_AT + PROCESSES].fill(0);
 }
 
 // Works out which processes may run, upward: 1 where a process may, 0 where it is known inactive, and 0 past the last.
@@ -76,11 +68,9 @@ pub fn may_run(index: &Index, u: u32, rows: &mut Rows)
 {
     clear_run(rows);
     let processes = processes_of(index);
-    let mut i: usize = 0;
-    while i < processes {
-        let x = number(runs(index, rows, i, u));
+    for i in 0..processes {
+        let x = u32::from(runs(index, rows, i, u));
         put_run(rows, i, x);
-        i += 1;
     }
 }
 

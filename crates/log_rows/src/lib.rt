@@ -22,7 +22,10 @@ pub const PLACE_AT: usize = COMES_AT + ROWS;
 pub const WORDS: usize = PLACE_AT + ROWS;
 
 // A log of one combination in memory, and what its rows are read with.
+// (One array, not a struct of arrays by row: the contracts of the crates above speak of its fields by `rows_of`.)
 pub type Rows = [u32; WORDS];
+
+// (A reader and a store for each field, since each contract names the field in the record.)
 
 // 1 where process i may run, 0 where it is known inactive.
 pub fn run_of(rows: &Rows, i: usize) -> u32

@@ -2,21 +2,16 @@
 -- numbers, and lines held at the front.
 -- Assumes nothing.
 use mathlib.Core.Path.{◌≡◌, refl, sym, ap, ◌∙◌}
-use mathlib.Core.Logic.{◌⊎◌, inl, inr}
-use mathlib.Core.Bool.{true, false}
 use mathlib.Core.List.{List, [], ◌∷◌, ◌++◌, map}
-use Prim.Native.Nat.{ℕ, ◌≤◌, ◌<◌, min}
+use Prim.Native.Nat.{ℕ, ◌≤◌, ◌<◌}
 use native.Mathlib.Omega.{arith}
-use lib.Dec.{ltb}
 use lib.ListN.{length, get_or, take, drop, length-map, get_or-append, get_or-eq_default}
 use lib.Seq.{take_all}
-use borrow.Author.Tests.{ltb-true, ltb-false}
 use Rattle.lists.specs.Front.{front}
 use Rattle.lists.specs.Lists.{below, fill}
-use Rattle.lists.proofs.Tests.{two}
 use Rattle.lists.proofs.Keep.{length_upfrom, getD_upfrom, map_upfrom, map_map}
 use Rattle.lists.proofs.Places.{list_below}
-use Rattle.lists.proofs.Fill.{fill_at, fill_past}
+use Rattle.lists.proofs.Fill.{fill_each}
 use Rattle.plan.specs.Memory.{counted}
 
 module _ {A B : Type 0} (f : A → B) (d : A) (n : ℕ) (xs : List A) where
@@ -27,20 +22,6 @@ module _ {A B : Type 0} (f : A → B) (d : A) (n : ℕ) (xs : List A) where
   pub counted_at : (i : ℕ) (e : B) → i < n → get_or (counted f d n xs) i e ≡ f (get_or xs i d)
   unfolding counted
   counted_at i e l = getD_upfrom (λ i. f (get_or xs i d)) 0 n i e l ∙ ap (λ (k : ℕ). f (get_or xs k d)) (omega arith)
-
-  -- One number of each line, in an array that holds 0 past the lines, is that number of the line everywhere, if the
-  -- empty line has 0 there.
-  pub column : (h : B → ℕ) (size : ℕ) (g : ℕ → ℕ) → ((k : ℕ) → g k ≡ h (f (get_or xs k d))) → h (f d) ≡ 0 → n ≤ size → (i : ℕ) →
-      get_or (fill size g (min n size)) i 0 ≡ h (get_or (counted f d n xs) i (f d))
-  column h size g e z u i =
-      let q : min n size ≡ n = omega arith in
-      rw q (at (two (ltb i n)))
-    where
-      at : (ltb i n ≡ true) ⊎ (ltb i n ≡ false) → get_or (fill size g n) i 0 ≡ h (get_or (counted f d n xs) i (f d))
-      at (inl t) = fill_at size g n i u (ltb-true i n t) ∙ e i ∙ ap h (sym (counted_at i (f d) (ltb-true i n t)))
-      at (inr t) =
-          fill_past size g n i (ltb-false i n t) ∙ sym z
-          ∙ ap h (sym (get_or-eq_default (counted f d n xs) (f d) (let l = ltb-false i n t in omega (arith, counted_length))))
 
 -- Lines held at the front of an array that has room for them are the lines that their number names.
 pub counted_front : {A B : Type 0} (f : A → B) (d : A) (hold : B → A) → ((y : B) → f (hold y) ≡ y) → (ys : List B) (room : ℕ) (xs : List A) → length ys ≤ room →
@@ -58,3 +39,10 @@ counted_front {A} f d hold same ys room xs l =
     back : (zs : List _) → map (λ y. f (hold y)) zs ≡ zs
     back [] = refl
     back (z ∷ zs) = λ i. same z i ∷ back zs i
+
+-- One number of each line, in an array that holds 0 past the lines, is that number of the line everywhere, if the empty
+-- line has 0 there.
+pub in_column : {A : Type 0} (h : A → ℕ) (d : A) (xs : List A) (size : ℕ) → h d ≡ 0 → length xs ≤ size → (i : ℕ) →
+    get_or (fill size (λ k. h (get_or xs k d)) (length xs)) i 0 ≡ h (get_or xs i d)
+in_column h d xs size z u =
+    fill_each (λ k x. x ≡ h (get_or xs k d)) size (λ k. h (get_or xs k d)) (length xs) u (λ k l. refl) (λ k l. sym (ap h (get_or-eq_default xs d l) ∙ z))

@@ -1,4 +1,5 @@
 pub mod Memory
-pub mod Tables
+pub mod Bounds
+pub mod Numbers
 pub mod Tests
 pub mod Kinds

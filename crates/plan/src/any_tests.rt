@@ -1,111 +1,59 @@
-// Tests of refusals 3 to 7 over the first numbers of an array, or of two.
-ghost use Rattle.std.specs.Prelude.{◌≡◌, ℕ, ◌<◌, ◌≤◌, get_or, length, replicate};
+// Tests of refusals 4, 5 and 7: what stands twice among numbers or edges.
+ghost use Rattle.std.specs.Prelude.{◌≡◌, ℕ, ◌<◌, get_or, length, map, replicate};
 ghost use Rattle.limits.specs.Limits.{PROCESSES};
-ghost use Rattle.lists.specs.Lists.{any, below, earlier};
-ghost use Rattle.plan.specs.Tests.{outside_at, not_below_at, at, key, unordered_at};
+ghost use Rattle.lists.specs.Lists.{repeated};
+ghost use Rattle.model.specs.Refusals.{twin_edges};
+ghost use Rattle.plan.specs.Bounds.{Few};
+ghost use Rattle.plan.specs.Memory.{edge_of, no_edge, lines};
 
-use crate::fields::is_outside;
+use crate::{Edge, Plan};
 use arrays::wide;
+use limits::PROCESSES;
 
-// Some of the first n numbers is outside lo to hi.
-pub fn any_outside(xs: &[u32], n: usize, lo: u32, hi: u32) -> bool
-    requires { n ≤ length xs.now }
-    ensures { result ≡ any (outside_at xs.now lo hi) (below n) }
+// Pairs of processes.
+const PAIRS: usize = PROCESSES * PROCESSES;
+
+// One of the numbers stands twice.
+pub fn any_twice(xs: &[u32]) -> bool
+    ensures { result ≡ repeated xs.now }
 {
-    let mut i: usize = 0;
-    while i < n {
-        if is_outside(xs[i], lo, hi) {
+    for (i, x) in xs.iter().enumerate() {
+        if xs[..i].contains(x) {
             return true;
         }
-        i += 1;
     }
     false
 }
 
-// Some of the first n numbers is not below a bound.
-pub fn any_not_below(xs: &[u32], n: usize, bound: usize) -> bool
-    requires { n ≤ length xs.now }
-    ensures { result ≡ any (not_below_at xs.now bound) (below n) }
+// Two slots share a node.
+pub fn shared_node(p: &Plan) -> bool
+    requires { Few p.now }
+    ensures { result ≡ repeated (map (λ s. s.node) (lines p.now).slots) }
 {
-    let mut i: usize = 0;
-    while i < n {
-        if bound <= wide(xs[i]) {
-            return true;
-        }
-        i += 1;
-    }
-    false
+    let nodes = p.slot.map(|s| s.node);
+    any_twice(&nodes[..p.slots])
 }
 
-// No pair seen yet.
-fn no_marks() -> [u8; 4096]
+// No pair seen yet: a function, so that no goal holds the 4,096 zeros.
+fn no_marks() -> [u8; PAIRS]
     ensures { result ≡ replicate 4096 0 }
 {
-    [0u8; 4096]
+    [0u8; PAIRS]
 }
 
-// Among the first n pairs of numbers below 64, one stands twice.
-pub fn any_repeat<'a>(high: &'a [u32], low: &'a [u32], n: usize) -> bool
-    requires fact_1 { n ≤ length high.now }
-    requires fact_2 { n ≤ length low.now }
-    requires fact_3 { ((i : ℕ) → i < n → (get_or high.now i 0 < PROCESSES) × (get_or low.now i 0 < PROCESSES)) }
-    ensures { result ≡ any (earlier (key high.now low.now)) (below n) }
+// Two edges share both `from` and `to`.
+pub fn twin_edges(edges: &[Edge]) -> bool
+    requires { (i : ℕ) → i < length edges.now → ((get_or edges.now i no_edge).from < PROCESSES)
+        × ((get_or edges.now i no_edge).to < PROCESSES) }
+    ensures { result ≡ twin_edges (map edge_of edges.now) }
 {
     let mut seen = no_marks();
-    let mut i: usize = 0;
-    while i < n {
-        let k = wide(high[i]) * 64 + wide(low[i]);
+    for e in edges {
+        let k = wide(e.from) * PROCESSES + wide(e.to);
         if seen[k] == 1 {
             return true;
         }
         seen[k] = 1;
-        i += 1;
-    }
-    false
-}
-
-// Number i stands among those before it.
-fn stands_before(xs: &[u32], i: usize) -> bool
-    requires { i < length xs.now }
-    ensures { result ≡ earlier (at xs.now) i }
-{
-    let mut j: usize = 0;
-    while j < i {
-        if xs[j] == xs[i] {
-            return true;
-        }
-        j += 1;
-    }
-    false
-}
-
-// Among the first n numbers, one stands twice.
-pub fn any_twice(xs: &[u32], n: usize) -> bool
-    requires { n ≤ length xs.now }
-    ensures { result ≡ any (earlier (at xs.now)) (below n) }
-{
-    let mut i: usize = 0;
-    while i < n {
-        if stands_before(xs, i) {
-            return true;
-        }
-        i += 1;
-    }
-    false
-}
-
-// Some edge's `from` is not below its `to`.
-pub fn any_unordered<'a>(from: &'a [u32], to: &'a [u32], n: usize) -> bool
-    requires fact_1 { n ≤ length from.now }
-    requires fact_2 { n ≤ length to.now }
-    ensures { result ≡ any (unordered_at from.now to.now) (below n) }
-{
-    let mut i: usize = 0;
-    while i < n {
-        if to[i] <= from[i] {
-            return true;
-        }
-        i += 1;
     }
     false
 }

@@ -1,37 +1,38 @@
-// The plan in memory: structs by value, counts and arrays, its lines as tables of numbers, and the tests that refusals
-// 2 to 9 are made of: on one number or one line (fields), and over arrays of numbers (any_tests). `lines` in
-// specs/Memory.antt says which lines of document 01 a plan stands for, specs/Tests.antt what the tests say.
+// The plan in memory: structs by value, counts and arrays, its lines as parts of the arrays (held), and the tests that
+// refusals 2 to 9 are made of: on the counts, one number or one line (fields), and of what stands twice (any_tests).
+// `lines` in specs/Memory.antt says which lines of document 01 a plan stands for.
 // Document 01: "Two plans in memory are the same if the lines they stand for are."
 #![tactic(auto)]
 
 mod any_tests;
 mod fields;
-mod tables;
+mod held;
 
 ghost use Rattle.std.specs.Prelude.{◌≡◌};
 ghost use Rattle.plan.specs.Memory.{empty_plan};
 
-pub use any_tests::{any_not_below, any_outside, any_repeat, any_twice, any_unordered};
-pub use fields::{is_longer, is_undecided, wrong_counts, wrong_plan_line};
+pub use any_tests::{any_twice, shared_node, twin_edges};
+pub use fields::{
+    has_long_message, has_wrong_ends, has_wrong_when, is_outside, wrong_counts, wrong_plan_line,
+};
 use limits::{CONDITIONS, EDGES, PROCESSES, SLOTS};
-pub use tables::{EdgeTable, ProcessTable, SlotTable, edge_table, process_table, slot_table};
 
 // "`pick` is `urgency` or `number`"
-#[derive(Clone, Copy)]
+#[derive(Clone, Copy, Debug, PartialEq, Eq)]
 pub enum Pick {
     Urgency,
     Number,
 }
 
 // "`waits` is `all`, or `any` for a conjunction process"
-#[derive(Clone, Copy)]
+#[derive(Clone, Copy, Debug, PartialEq, Eq)]
 pub enum Waits {
     All,
     Any,
 }
 
 // The `when` of an edge: always, or a condition that must be true or false.
-#[derive(Clone, Copy)]
+#[derive(Clone, Copy, Debug, PartialEq, Eq)]
 pub enum When {
     Always,
     True(u32),
@@ -39,27 +40,30 @@ pub enum When {
 }
 
 // The plan line: `byte` is "ticks per byte on the bus", and `head` the bytes that a frame has beside its data.
-#[derive(Clone, Copy)]
+#[derive(Clone, Copy, Debug, PartialEq, Eq)]
 pub struct PlanLine {
     pub byte: u32,
     pub head: u32,
     pub pick: Pick,
 }
 
-#[derive(Clone, Copy)]
+// A slot of the bus: the node that it is of, and the bytes that it carries.
+#[derive(Clone, Copy, Debug, PartialEq, Eq)]
 pub struct Slot {
     pub node: u32,
     pub bytes: u32,
 }
 
-#[derive(Clone, Copy)]
+// A process: where it runs, how many ticks, and what it waits for.
+#[derive(Clone, Copy, Debug, PartialEq, Eq)]
 pub struct Process {
     pub node: u32,
     pub ticks: u32,
     pub waits: Waits,
 }
 
-#[derive(Clone, Copy)]
+// An edge: a message of so many bytes from one process to another.
+#[derive(Clone, Copy, Debug, PartialEq, Eq)]
 pub struct Edge {
     pub from: u32,
     pub to: u32,
@@ -68,7 +72,7 @@ pub struct Edge {
 }
 
 // A plan: `slots` is how many of the array `slot` are the plan's, and so on. A count above its array stands for as many
-// lines, of which refusal 2 then finds too many.
+// lines, of which refusal 2 then finds too many. No derived equality: what stands past the counts is no part of a plan.
 #[derive(Clone, Copy)]
 pub struct Plan {
     pub line: PlanLine,

@@ -1,4 +1,5 @@
-// The arrays of a plan index, read number by number.
+// The arrays of a plan index, read number by number. One lent array has named offsets and a reader for each field: its
+// contract names the field of `laid`, and the bound where there is one.
 ghost use Rattle.std.specs.Prelude.{◌≡◌, ◌<◌, ◌≤◌, get_or};
 ghost use Rattle.limits.specs.Limits.{NODES, PROCESSES, CONDITIONS, EDGES, ROWS, STARTS, TICKS, BYTES};
 ghost use Rattle.plan_index.specs.Index.{laid, Bounded};

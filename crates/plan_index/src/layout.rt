@@ -67,4 +67,5 @@ pub const SIZE_AT: usize = SENDER_AT + ROWS;
 pub const WORDS: usize = SIZE_AT + ROWS;
 
 // A plan laid out for planning and checking.
+// (One array, not a struct of arrays: the contracts of the crates above speak of its fields by `laid`.)
 pub type Index = [u32; WORDS];

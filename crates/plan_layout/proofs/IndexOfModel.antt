@@ -24,8 +24,8 @@ use Rattle.laws.proofs.Rows.{sender_in, full_tick, process_span, item_span}
 use Rattle.plan.specs.declared.Plan.{Plan}
 use Rattle.plan.specs.Memory.{lines}
 use Rattle.plan.specs.Tests.{at}
-use Rattle.plan.specs.Tables.{processes_table, edges_table}
-use Rattle.plan.proofs.TestsOnLines.{processes_length, edges_length, conditions_length, slots_length, process_node, process_ticks, edge_from, edge_to, edge_bytes, edge_kind, edge_condition}
+use Rattle.plan_layout.specs.Columns.{process_columns, edge_columns, any_of}
+use Rattle.plan.proofs.TestsOnLines.{processes_length, edges_length, conditions_length, slots_length}
 use Rattle.log_queries.specs.Reading.{edges_into}
 use Rattle.log_queries.specs.Holding.{known_row, met_in}
 use Rattle.plan_order.specs.declared.orders.Orders.{Orders}
@@ -43,7 +43,7 @@ use Rattle.plan_layout.specs.Layout.{index_of}
 use Rattle.plan_layout.specs.Indexed.{Indexed}
 use Rattle.plan_layout.proofs.RowBounds.{senders_small}
 use Rattle.plan_layout.proofs.OrderParts.{null_same, part_same}
-use Rattle.plan_layout.proofs.Columns.{any_of, facts, few, process_any, no_process_at, no_edge_at, node_small, ticks_small, from_small, bytes_small, names_small, decider_same, decider_small}
+use Rattle.plan_layout.proofs.Columns.{facts, few, process_any, no_process_at, no_edge_at, node_small, ticks_small, from_small, bytes_small, names_small, decider_same, decider_small, process_node, process_ticks, edge_from, edge_to, edge_bytes, edge_kind, edge_condition}
 use Rattle.plan_layout.proofs.EdgesOfModel.{receiver_same, knownby_same, met_same}
 
 not_not : (b : Bool) → not (not b) ≡ b
@@ -93,25 +93,25 @@ module _ (p : Plan) (h : plan_refusal (lines p) ≡ nothing) where
   few_rows : all_rows ≤ 198
   few_rows = let f = few p h in omega (arith, f.processes, f.edges, f.conditions)
 
-  pub node_of : {i k : ℕ} → i ≡ k → at (processes_table p).node i ≡ (process (lines p) k).node
+  pub node_of : {i k : ℕ} → i ≡ k → at (process_columns (lines p)).node i ≡ (process (lines p) k).node
   node_of {i} e = process_node p (few p h) i ∙ ap (λ (k : ℕ). (process (lines p) k).node) e
 
   -- by edge
   pub known_row_at : (e : ℕ) →
-      knownby_of (at (edges_table p).kind e) (at (edges_table p).from e) (conditionrow + at (edges_table p).condition e) ≡ known_row (lines p) (edge (lines p) e).from (edge (lines p) e).when
+      knownby_of (at (edge_columns (lines p)).kind e) (at (edge_columns (lines p)).from e) (conditionrow + at (edge_columns (lines p)).condition e) ≡ known_row (lines p) (edge (lines p) e).from (edge (lines p) e).when
   known_row_at e =
       (λ j. knownby_of (edge_kind p (few p h) e j) (edge_from p (few p h) e j) (sym (processes_length p) j + sym (edges_length p) j + edge_condition p (few p h) e j))
       ∙ knownby_same (lines p) (edge (lines p) e).from (edge (lines p) e).when
 
   known_rows : (e : ℕ) →
-      at (known_rows_by_edge (edges_table p).kind (edges_table p).condition (edges_table p).from p.edges conditionrow) e ≡ known_row (lines p) (edge (lines p) e).from (edge (lines p) e).when
+      at (known_rows_by_edge (edge_columns (lines p)).kind (edge_columns (lines p)).condition (edge_columns (lines p)).from p.edges conditionrow) e ≡ known_row (lines p) (edge (lines p) e).from (edge (lines p) e).when
   unfolding known_rows_by_edge
   known_rows =
       fill_each (λ e x. x ≡ known_row (lines p) (edge (lines p) e).from (edge (lines p) e).when) 128 _ p.edges (few p h).edges (λ e l. known_row_at e)
       (λ e l. sym (λ j. known_row (lines p) (no_edge_at p h e l j).from (no_edge_at p h e l j).when))
 
   met : (c : ℕ) → c < 2 ^ length (lines p).conditions → (e : ℕ) →
-      eqb (at (unmet_by (edges_table p).kind (edges_table p).condition p.edges c) e) 0 ≡ met_in (get_or (combinations (lines p)) c []) (edge (lines p) e).when
+      eqb (at (unmet_by (edge_columns (lines p)).kind (edge_columns (lines p)).condition p.edges c) e) 0 ≡ met_in (get_or (combinations (lines p)) c []) (edge (lines p) e).when
   unfolding unmet_by
   met c u =
       fill_each (λ e x. eqb x 0 ≡ met_in (get_or (combinations (lines p)) c []) (edge (lines p) e).when) 128 _ p.edges (few p h).edges
@@ -121,7 +121,7 @@ module _ (p : Plan) (h : plan_refusal (lines p) ≡ nothing) where
       (λ v k q. combination_bit (length (lines p).conditions) c k u ((facts p h).decided e (omega (arith, edges_length p)) v k q).0))
       (λ e l. sym (λ j. met_in (get_or (combinations (lines p)) c []) (no_edge_at p h e l j).when))
 
-  locals : (e : ℕ) → eqb (at (remote_by_edge (processes_table p).node (edges_table p).from (edges_table p).to p.edges) e) 0 ≡ local (lines p) e
+  locals : (e : ℕ) → eqb (at (remote_by_edge (process_columns (lines p)).node (edge_columns (lines p)).from (edge_columns (lines p)).to p.edges) e) 0 ≡ local (lines p) e
   unfolding remote_by_edge
   locals =
       fill_each (λ e x. eqb x 0 ≡ local (lines p) e) 128 _ p.edges (few p h).edges
@@ -134,43 +134,43 @@ module _ (p : Plan) (h : plan_refusal (lines p) ≡ nothing) where
       ∙ eq-eqb (process (lines p) 0).node (process (lines p) 0).node refl))
 
   receivers : (e : ℕ) → e < length (lines p).edges → local (lines p) e ≡ false →
-      at (remote_by_edge (processes_table p).node (edges_table p).from (edges_table p).to p.edges) e ≡ suc (unit (lines p) (edge (lines p) e).to)
+      at (remote_by_edge (process_columns (lines p)).node (edge_columns (lines p)).from (edge_columns (lines p)).to p.edges) e ≡ suc (unit (lines p) (edge (lines p) e).to)
   unfolding remote_by_edge unit
   receivers e l t =
       fill_at 128 _ p.edges e (few p h).edges (omega (arith, edges_length p))
       ∙ (λ j. receiver_of (node_of (edge_from p (few p h) e) j) (node_of (edge_to p (few p h) e) j))
       ∙ ap (λ (b : Bool). if b then 0 else suc (process (lines p) (edge (lines p) e).to).node) t
 
-  remote_most : (e : ℕ) → at (remote_by_edge (processes_table p).node (edges_table p).from (edges_table p).to p.edges) e ≤ 8
+  remote_most : (e : ℕ) → at (remote_by_edge (process_columns (lines p)).node (edge_columns (lines p)).from (edge_columns (lines p)).to p.edges) e ≤ 8
   unfolding remote_by_edge
   remote_most =
       fill_all (λ x. x ≤ 8) 128 _ p.edges (few p h).edges
-      (λ e l. receiver_small (at (processes_table p).node (at (edges_table p).from e)) (at (processes_table p).node (at (edges_table p).to e)) (node_small p h (at (edges_table p).to e)))
+      (λ e l. receiver_small (at (process_columns (lines p)).node (at (edge_columns (lines p)).from e)) (at (process_columns (lines p)).node (at (edge_columns (lines p)).to e)) (node_small p h (at (edge_columns (lines p)).to e)))
       (omega arith)
 
-  known_rows_small : (e : ℕ) → at (known_rows_by_edge (edges_table p).kind (edges_table p).condition (edges_table p).from p.edges conditionrow) e < 198
+  known_rows_small : (e : ℕ) → at (known_rows_by_edge (edge_columns (lines p)).kind (edge_columns (lines p)).condition (edge_columns (lines p)).from p.edges conditionrow) e < 198
   unfolding known_rows_by_edge
   known_rows_small =
       fill_all (λ x. x < 198) 128 _ p.edges (few p h).edges
       (λ e l.
-      knownby_small (at (edges_table p).kind e) (at (edges_table p).from e) (conditionrow + at (edges_table p).condition e) (from_small p h e)
+      knownby_small (at (edge_columns (lines p)).kind e) (at (edge_columns (lines p)).from e) (conditionrow + at (edge_columns (lines p)).condition e) (from_small p h e)
       (let f = few p h in omega (arith, names_small p h e, f.processes, f.edges)))
       (omega arith)
 
   -- by row
-  pub process_same : (r : ℕ) → r < rows (lines p) → process_of_row (edges_table p).from decided_by p.processes conditionrow r ≡ sender (lines p) r
+  pub process_same : (r : ℕ) → r < rows (lines p) → process_of_row (edge_columns (lines p)).from decided_by p.processes conditionrow r ≡ sender (lines p) r
   unfolding sender
   process_same r l = rw (processes_length p, edges_length p) (by (two (ltb r conditionrow)))
     where
       by : (ltb r conditionrow ≡ true) ⊎ (ltb r conditionrow ≡ false) →
-          (if ltb r p.processes then r else if ltb r conditionrow then at (edges_table p).from (r - p.processes) else at decided_by (r - conditionrow))
+          (if ltb r p.processes then r else if ltb r conditionrow then at (edge_columns (lines p)).from (r - p.processes) else at decided_by (r - conditionrow))
           ≡ (if ltb r p.processes then r else if ltb r conditionrow then (edge (lines p) (r - p.processes)).from else decider (lines p) (r - conditionrow))
       by (inl e) = rw e (λ j. if ltb r p.processes then r else edge_from p (few p h) (r - p.processes) j)
       by (inr e) =
           let k = ltb-false r conditionrow e in
           rw e (λ j. if ltb r p.processes then r else decider_same p h (r - conditionrow) (omega (arith, row_count)) j)
 
-  senders : (r : ℕ) → r < rows (lines p) → at (senders_by_row (edges_table p).from decided_by (processes_table p).node p.processes conditionrow all_rows) r ≡ row_node (lines p) r
+  senders : (r : ℕ) → r < rows (lines p) → at (senders_by_row (edge_columns (lines p)).from decided_by (process_columns (lines p)).node p.processes conditionrow all_rows) r ≡ row_node (lines p) r
   unfolding senders_by_row row_node
   senders r l = fill_at 198 _ all_rows r few_rows (omega (arith, row_count)) ∙ node_of (process_same r l)
 
@@ -178,35 +178,35 @@ module _ (p : Plan) (h : plan_refusal (lines p) ≡ nothing) where
   unfolding row_node
   node_in r l = (facts p h).node_in (sender (lines p) r) (sender_in (lines p) (facts p h) r l)
 
-  pub size_at : (r : ℕ) → size_of_row (edges_table p).bytes p.processes conditionrow r ≡ row_bytes (lines p) r
+  pub size_at : (r : ℕ) → size_of_row (edge_columns (lines p)).bytes p.processes conditionrow r ≡ row_bytes (lines p) r
   unfolding row_bytes
   size_at r =
-      (λ j. if ltb r (sym (processes_length p) j + sym (edges_length p) j) then at (edges_table p).bytes (r - sym (processes_length p) j) else 1)
+      (λ j. if ltb r (sym (processes_length p) j + sym (edges_length p) j) then at (edge_columns (lines p)).bytes (r - sym (processes_length p) j) else 1)
       ∙ (λ j. if ltb r (length (lines p).processes + length (lines p).edges) then edge_bytes p (few p h) (r - length (lines p).processes) j else 1)
 
-  sizes : (r : ℕ) → r < rows (lines p) → at (sizes_by_row (edges_table p).bytes p.processes conditionrow all_rows) r ≡ row_bytes (lines p) r
+  sizes : (r : ℕ) → r < rows (lines p) → at (sizes_by_row (edge_columns (lines p)).bytes p.processes conditionrow all_rows) r ≡ row_bytes (lines p) r
   unfolding sizes_by_row
   sizes r l = fill_at 198 _ all_rows r few_rows (omega (arith, row_count)) ∙ size_at r
 
-  size_most : (r : ℕ) → at (sizes_by_row (edges_table p).bytes p.processes conditionrow all_rows) r ≤ 64
+  size_most : (r : ℕ) → at (sizes_by_row (edge_columns (lines p)).bytes p.processes conditionrow all_rows) r ≤ 64
   unfolding sizes_by_row
   size_most = fill_all (λ x. x ≤ 64) 198 _ all_rows few_rows (λ r l. by r (ltb r conditionrow)) (omega arith)
     where
-      by : (r : ℕ) (b : Bool) → (if b then at (edges_table p).bytes (r - p.processes) else 1) ≤ 64
+      by : (r : ℕ) (b : Bool) → (if b then at (edge_columns (lines p)).bytes (r - p.processes) else 1) ≤ 64
       by r true = bytes_small p h (r - p.processes)
       by r false = omega arith
 
   -- by node
-  pub decides_at : (n : ℕ) → decided_at decided_by (processes_table p).node p.conditions n ≡ mask_from (λ k. eqb (process (lines p) (decider (lines p) k)).node n) 0 (length (lines p).conditions)
+  pub decides_at : (n : ℕ) → decided_at decided_by (process_columns (lines p)).node p.conditions n ≡ mask_from (λ k. eqb (process (lines p) (decider (lines p) k)).node n) 0 (length (lines p).conditions)
   decides_at n =
       built_same _ (λ k. eqb (process (lines p) (decider (lines p) k)).node n) 0 p.conditions (λ k l u. ap (λ (m : ℕ). eqb m n) (node_of (decider_same p h k (omega arith))))
       ∙ ap (mask_from (λ k. eqb (process (lines p) (decider (lines p) k)).node n) 0) (sym (conditions_length p))
 
-  decided : (n : ℕ) → n < p.slots → at (decided_by_node decided_by (processes_table p).node p.conditions) n ≡ decided_at decided_by (processes_table p).node p.conditions n
+  decided : (n : ℕ) → n < p.slots → at (decided_by_node decided_by (process_columns (lines p)).node p.conditions) n ≡ decided_at decided_by (process_columns (lines p)).node p.conditions n
   unfolding decided_by_node
   decided n l = fill_at 8 _ 8 n (omega arith) (omega (arith, (few p h).slots))
 
-  decides_small : (n : ℕ) → at (decided_by_node decided_by (processes_table p).node p.conditions) n < 64
+  decides_small : (n : ℕ) → at (decided_by_node decided_by (process_columns (lines p)).node p.conditions) n < 64
   unfolding decided_by_node
   decides_small = fill_all (λ x. x < 64) 8 _ 8 (omega arith) (λ n l. built_small _ 0 p.conditions 6 (few p h).conditions) (omega arith)
 
@@ -217,7 +217,7 @@ module _ (p : Plan) (h : plan_refusal (lines p) ≡ nothing) where
       subst (λ (s : Slot). In s (lines p).slots) (sym (slot_own (lines p) (facts p h) r.0 r.1) ∙ ap (slot_of (lines p)) r.2) r.1
 
   module _ (o : Orders) (w : Ordered (lines p) o) where
-    pub as_any_at : (i : ℕ) → i < p.processes → as_any_of (at (processes_table p).any i) (at o.intofirst i) (at o.intofirst (i + 1)) ≡ if conjunction (lines p) i then 1 else 0
+    pub as_any_at : (i : ℕ) → i < p.processes → as_any_of (at (process_columns (lines p)).any i) (at o.intofirst i) (at o.intofirst (i + 1)) ≡ if conjunction (lines p) i then 1 else 0
     unfolding conjunction
     as_any_at i l =
         let empty = null_same o.intofirst o.into i (into (lines p) i) (w.into i (omega (arith, processes_length p))) w.into_long in
@@ -225,7 +225,7 @@ module _ (p : Plan) (h : plan_refusal (lines p) ≡ nothing) where
         ∙ asany_same (process (lines p) i).waits (at o.intofirst i) (at o.intofirst (i + 1))
         ∙ ap (λ (b : Bool). if says_any (process (lines p) i).waits && b then 1 else 0) (sym (ap not empty ∙ not_not (ltb (at o.intofirst i) (at o.intofirst (i + 1)))))
 
-    conjunctions : (i : ℕ) → not (eqb (at (as_any_by_process (processes_table p).any o.intofirst p.processes) i) 0) ≡ conjunction (lines p) i
+    conjunctions : (i : ℕ) → not (eqb (at (as_any_by_process (process_columns (lines p)).any o.intofirst p.processes) i) 0) ≡ conjunction (lines p) i
     unfolding as_any_by_process conjunction
     conjunctions =
         fill_each (λ i x. not (eqb x 0) ≡ conjunction (lines p) i) 64 _ p.processes (few p h).processes
@@ -241,14 +241,14 @@ module _ (p : Plan) (h : plan_refusal (lines p) ≡ nothing) where
       lasts_most n l = omega (arith, m.lasts n l, slot_ticks_most (lines p) (facts p h) (slot_of (lines p) n) (slot_there n l))
 
       abbrev pub sent : List ℕ
-      sent = senders_by_row (edges_table p).from decided_by (processes_table p).node p.processes conditionrow all_rows
+      sent = senders_by_row (edge_columns (lines p)).from decided_by (process_columns (lines p)).node p.processes conditionrow all_rows
 
-      pub span_at : (r : ℕ) → r < rows (lines p) → span_of_row (processes_table p).ticks t.ticks p.processes r (at sent r) ≡ span (lines p) (full_ticks (lines p)) r
+      pub span_at : (r : ℕ) → r < rows (lines p) → span_of_row (process_columns (lines p)).ticks t.ticks p.processes r (at sent r) ≡ span (lines p) (full_ticks (lines p)) r
       unfolding transit
       span_at r l = by (two (ltb r p.processes))
         where
           by : (ltb r p.processes ≡ true) ⊎ (ltb r p.processes ≡ false) →
-              (if ltb r p.processes then at (processes_table p).ticks r else at t.ticks (at sent r)) ≡ span (lines p) (full_ticks (lines p)) r
+              (if ltb r p.processes then at (process_columns (lines p)).ticks r else at t.ticks (at sent r)) ≡ span (lines p) (full_ticks (lines p)) r
           by (inl e) =
               let i = ltb-true r p.processes e in
               rw e
@@ -258,22 +258,22 @@ module _ (p : Plan) (h : plan_refusal (lines p) ≡ nothing) where
               rw e
               (ap (at t.ticks) (senders r l) ∙ m.lasts (row_node (lines p) r) (node_in r l) ∙ sym (item_span (lines p) (full_ticks (lines p)) r (omega (arith, processes_length p))))
 
-      spans : (r : ℕ) → r < rows (lines p) → at (spans_by_row (processes_table p).ticks t.ticks sent p.processes all_rows) r ≡ span (lines p) (full_ticks (lines p)) r
+      spans : (r : ℕ) → r < rows (lines p) → at (spans_by_row (process_columns (lines p)).ticks t.ticks sent p.processes all_rows) r ≡ span (lines p) (full_ticks (lines p)) r
       unfolding spans_by_row
       spans r l = fill_at 198 _ all_rows r few_rows (omega (arith, row_count)) ∙ span_at r l
 
-      span_most : (r : ℕ) → at (spans_by_row (processes_table p).ticks t.ticks sent p.processes all_rows) r ≤ 100000
+      span_most : (r : ℕ) → at (spans_by_row (process_columns (lines p)).ticks t.ticks sent p.processes all_rows) r ≤ 100000
       unfolding spans_by_row
       span_most =
           fill_all (λ x. x ≤ 100000) 198 _ all_rows few_rows
           (λ r l. by r (omega (arith, row_count)) (ltb r p.processes))
           (omega arith)
         where
-          by : (r : ℕ) → r < rows (lines p) → (b : Bool) → (if b then at (processes_table p).ticks r else at t.ticks (at sent r)) ≤ 100000
+          by : (r : ℕ) → r < rows (lines p) → (b : Bool) → (if b then at (process_columns (lines p)).ticks r else at t.ticks (at sent r)) ≤ 100000
           by r l true = ticks_small p h r
           by r l false = omega (arith, ap (at t.ticks) (senders r l), lasts_most (row_node (lines p) r) (node_in r l))
 
-      pub indexed : Indexed (lines p) (index_of p.processes p.edges p.conditions p.slots (processes_table p) (edges_table p) o t decided_by)
+      pub indexed : Indexed (lines p) (index_of p.processes p.edges p.conditions p.slots (process_columns (lines p)) (edge_columns (lines p)) o t decided_by)
       unfolding index_of
       indexed =
           record {
@@ -321,7 +321,7 @@ module _ (p : Plan) (h : plan_refusal (lines p) ≡ nothing) where
             queue_members = w.queue_numbers;
             node_small = node_small p h;
             decider_small = decider_small p h;
-            sender_small = senders_small (edges_table p).from decided_by (processes_table p).node p.processes conditionrow all_rows few_rows (node_small p h);
+            sender_small = senders_small (edge_columns (lines p)).from decided_by (process_columns (lines p)).node p.processes conditionrow all_rows few_rows (node_small p h);
             few_processes = (few p h).processes;
             few_edges = (few p h).edges;
             few_conditions = (few p h).conditions;

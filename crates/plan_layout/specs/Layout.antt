@@ -1,4 +1,4 @@
--- The plan index of a plan's tables, orders and timetable, and how large the numbers in the tables are; and the plan
+-- The plan index of a plan's columns, orders and timetable, and how large the numbers in the columns are; and the plan
 -- index of a plan's lines.
 -- Assumes nothing.
 use Rattle.std.specs.Prelude.{List, ℕ, suc, ◌+◌, ◌≤◌, ◌<◌, eqb, length, if◌then◌else◌}
@@ -8,8 +8,6 @@ use Rattle.model.specs.Plan.{Lines, process, edge, decider, local, unit}
 use Rattle.model.specs.Activity.{conjunction}
 use Rattle.model.specs.Bus.{rows, row_node, row_bytes}
 use Rattle.model.specs.Log.{full_ticks, span}
-use Rattle.plan.specs.declared.tables.ProcessTable.{ProcessTable}
-use Rattle.plan.specs.declared.tables.EdgeTable.{EdgeTable}
 use Rattle.plan.specs.Kinds.{kind_of, condition_of}
 use Rattle.plan.specs.Tests.{at}
 use Rattle.bitset.specs.Masks.{mask_from}
@@ -18,13 +16,14 @@ use Rattle.plan_order.specs.declared.orders.Orders.{Orders}
 use Rattle.plan_order.specs.Orders.{orders_of}
 use Rattle.bus_timetable.specs.declared.Timetable.{Timetable}
 use Rattle.bus_timetable.specs.Bus.{timetable}
+use Rattle.plan_layout.specs.Columns.{ProcessColumns, EdgeColumns}
 use Rattle.plan_layout.specs.LineArrays.{as_any_by_process, known_rows_by_edge, remote_by_edge}
 use Rattle.plan_layout.specs.NodeArrays.{decided_by_node}
 use Rattle.plan_layout.specs.RowArrays.{senders_by_row, spans_by_row, sizes_by_row}
 use Rattle.plan_index.specs.declared.PlanIndex.{PlanIndex}
 
--- how large the numbers in the tables of a plan are in which refusals 2 to 9 find nothing
-pub record Small (processes edges conditions : ℕ) (q : ProcessTable) (e : EdgeTable) (decider : List ℕ) : Type 0 where
+-- how large the numbers in the columns of a plan are in which refusals 2 to 9 find nothing
+pub record Small (processes edges conditions : ℕ) (q : ProcessColumns) (e : EdgeColumns) (decider : List ℕ) : Type 0 where
   pub few_processes : processes ≤ 64
   pub few_edges : edges ≤ 128
   pub few_conditions : conditions ≤ 6
@@ -34,8 +33,8 @@ pub record Small (processes edges conditions : ℕ) (q : ProcessTable) (e : Edge
   pub named : (k : ℕ) → at e.condition k < 6
   pub deciders : (k : ℕ) → at decider k < 64
 
--- the plan index of a plan's tables, orders and timetable
-unfoldable pub index_of : ℕ → ℕ → ℕ → ℕ → ProcessTable → EdgeTable → Orders → Timetable → List ℕ → PlanIndex
+-- the plan index of a plan's columns, orders and timetable
+unfoldable pub index_of : ℕ → ℕ → ℕ → ℕ → ProcessColumns → EdgeColumns → Orders → Timetable → List ℕ → PlanIndex
 index_of processes edges conditions slots q e o t decider =
     record {
       processes = processes;

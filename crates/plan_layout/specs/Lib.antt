@@ -1,3 +1,4 @@
+pub mod Columns
 pub mod LineArrays
 pub mod NodeArrays
 pub mod RowArrays

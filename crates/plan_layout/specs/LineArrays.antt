@@ -1,4 +1,4 @@
--- Arrays by process and by edge, worked out of a plan's tables and orders number by number.
+-- Arrays by process and by edge, worked out of a plan's columns and orders number by number.
 -- Assumes nothing.
 use Rattle.std.specs.Prelude.{List, ℕ, suc, ◌+◌, eqb, ltb, if◌then◌else◌}
 use Rattle.lists.specs.Lists.{fill}

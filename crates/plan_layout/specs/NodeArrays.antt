@@ -1,5 +1,5 @@
--- An array by node, worked out of a plan's tables number by number: the conditions that the node's processes decide, as
--- masks.
+-- An array by node, worked out of a plan's columns number by number: the conditions that the node's processes decide,
+-- as masks.
 -- Assumes nothing.
 use Rattle.std.specs.Prelude.{List, ℕ, eqb}
 use Rattle.limits.specs.Limits.{NODES}

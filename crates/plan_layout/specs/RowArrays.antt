@@ -1,4 +1,4 @@
--- Arrays by row, worked out of a plan's tables and timetable number by number.
+-- Arrays by row, worked out of a plan's columns and timetable number by number.
 -- Assumes nothing.
 use Rattle.std.specs.Prelude.{List, ℕ, ◌-◌, ltb, if◌then◌else◌}
 use Rattle.limits.specs.Limits.{ROWS}

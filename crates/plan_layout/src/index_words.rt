@@ -5,7 +5,7 @@ ghost use Rattle.plan_index.specs.Index.{laid, Bounded};
 ghost use Rattle.plan_layout.specs.Laying.{counts, ProcessesLaid, EdgesLaid, OrdersLaid};
 ghost use Rattle.plan_layout.specs.Laying.{BusLaid, RowsLaid};
 
-use crate::laying::{lay_conditions, lay_edges, lay_nodes, lay_processes, lay_rows, lay_starts};
+use crate::laying::lay;
 use plan_index::{
     ASANY_AT, BYTES_AT, CONDITION_AT, CONDITIONROW_AT, CONDITIONS_AT, DECIDER_AT, DECIDES_AT,
     DISPATCH_AT, DISPATCHFIRST_AT, EDGES_AT, FROM_AT, INTO_AT, INTOFIRST_AT, Index, KIND_AT,
@@ -33,53 +33,53 @@ fn lay_counts(b: PlanIndex, index: &mut Index)
 fn lay_by_processes(b: PlanIndex, index: &mut Index)
     ensures { ProcessesLaid b index.old index.new }
 {
-    lay_processes(&b.node, NODE_AT, index);
-    lay_processes(&b.ticks, TICKS_AT, index);
-    lay_processes(&b.asany, ASANY_AT, index);
+    lay(&b.node, NODE_AT, index);
+    lay(&b.ticks, TICKS_AT, index);
+    lay(&b.asany, ASANY_AT, index);
 }
 
 // Stores the arrays by edge, and who decides each condition.
 fn lay_by_edges(b: PlanIndex, index: &mut Index)
     ensures { EdgesLaid b index.old index.new }
 {
-    lay_edges(&b.from, FROM_AT, index);
-    lay_edges(&b.knownby, KNOWNBY_AT, index);
-    lay_edges(&b.remote, REMOTE_AT, index);
-    lay_edges(&b.bytes, BYTES_AT, index);
-    lay_edges(&b.kind, KIND_AT, index);
-    lay_edges(&b.condition, CONDITION_AT, index);
-    lay_conditions(&b.decider, DECIDER_AT, index);
+    lay(&b.from, FROM_AT, index);
+    lay(&b.knownby, KNOWNBY_AT, index);
+    lay(&b.remote, REMOTE_AT, index);
+    lay(&b.bytes, BYTES_AT, index);
+    lay(&b.kind, KIND_AT, index);
+    lay(&b.condition, CONDITION_AT, index);
+    lay(&b.decider, DECIDER_AT, index);
 }
 
 // Stores the edges into each process, and the orders of each node.
 fn lay_by_orders(b: PlanIndex, index: &mut Index)
     ensures { OrdersLaid b index.old index.new }
 {
-    lay_starts(&b.intofirst, INTOFIRST_AT, index);
-    lay_edges(&b.into, INTO_AT, index);
-    lay_starts(&b.dispatchfirst, DISPATCHFIRST_AT, index);
-    lay_edges(&b.dispatch, DISPATCH_AT, index);
-    lay_starts(&b.queuefirst, QUEUEFIRST_AT, index);
-    lay_edges(&b.queue, QUEUE_AT, index);
+    lay(&b.intofirst, INTOFIRST_AT, index);
+    lay(&b.into, INTO_AT, index);
+    lay(&b.dispatchfirst, DISPATCHFIRST_AT, index);
+    lay(&b.dispatch, DISPATCH_AT, index);
+    lay(&b.queuefirst, QUEUEFIRST_AT, index);
+    lay(&b.queue, QUEUE_AT, index);
 }
 
 // Stores where the slots lie, and which conditions each node decides.
 fn lay_by_bus(b: PlanIndex, index: &mut Index)
     ensures { BusLaid b index.old index.new }
 {
-    lay_nodes(&b.offset, OFFSET_AT, index);
-    lay_nodes(&b.lasts, LASTS_AT, index);
-    lay_nodes(&b.rooms, ROOMS_AT, index);
-    lay_nodes(&b.decides, DECIDES_AT, index);
+    lay(&b.offset, OFFSET_AT, index);
+    lay(&b.lasts, LASTS_AT, index);
+    lay(&b.rooms, ROOMS_AT, index);
+    lay(&b.decides, DECIDES_AT, index);
 }
 
 // Stores the arrays by row.
 fn lay_by_rows(b: PlanIndex, index: &mut Index)
     ensures { RowsLaid b index.old index.new }
 {
-    lay_rows(&b.span, SPAN_AT, index);
-    lay_rows(&b.sender, SENDER_AT, index);
-    lay_rows(&b.size, SIZE_AT, index);
+    lay(&b.span, SPAN_AT, index);
+    lay(&b.sender, SENDER_AT, index);
+    lay(&b.size, SIZE_AT, index);
 }
 
 // The array in which these fields are laid out.

@@ -20,14 +20,10 @@ pub(crate) fn decided_by_node<'a>(
     ensures { result ≡ decided_by_node decider.now node.now conditions }
 {
     let mut decides = [0u32; NODES];
-    let mut bit: u32 = 1;
-    let mut k: usize = 0;
-    while k < conditions {
+    for k in 0..conditions {
         let i = wide(decider[k]);
         let n = wide(node[i]);
-        decides[n] += bit;
-        bit += bit;
-        k += 1;
+        decides[n] += 1 << k;
     }
     decides
 }

@@ -1,11 +1,12 @@
-// Arrays by row: the node that a row belongs to, the ticks that it lasts, and its bytes on the bus.
+// Arrays by row: the node that a row belongs to, the ticks that it lasts, and its bytes on the bus. (Arrays with a
+// count, not slices: the contracts speak of the zeros behind the count, too.)
 ghost use Rattle.std.specs.Prelude.{◌≡◌, ℕ, ◌+◌, ◌-◌, ◌<◌, ◌≤◌};
 ghost use Rattle.limits.specs.Limits.{NODES, PROCESSES, CONDITIONS, EDGES, ROWS};
 ghost use Rattle.plan.specs.Tests.{at};
 ghost use Rattle.plan_layout.specs.RowArrays.{process_of_row, span_of_row, size_of_row, senders_by_row};
 ghost use Rattle.plan_layout.specs.RowArrays.{spans_by_row, sizes_by_row};
 
-use arrays::{difference_usize, no_rows, wide};
+use arrays::{wide, zeros};
 use limits::{CONDITIONS, EDGES, NODES, PROCESSES, ROWS};
 
 // The process that a row belongs to: itself, an edge's sender, or a condition's decider.
@@ -47,12 +48,10 @@ pub(crate) fn row_senders<'a>(
     ensures { result ≡ senders_by_row from.now decider.now node.now processes
         conditionrow rows }
 {
-    let mut sender = no_rows();
-    let mut r: usize = 0;
-    while r < rows {
+    let mut sender = zeros::<ROWS>();
+    for r in 0..rows {
         let i = wide(row_process(from, decider, processes, conditionrow, r));
         sender[r] = node[i];
-        r += 1;
     }
     sender
 }
@@ -89,11 +88,9 @@ pub(crate) fn row_spans<'a>(
     requires fact_3 { ((r : ℕ) → at sender.now r < NODES) }
     ensures { result ≡ spans_by_row ticks.now lasts.now sender.now processes rows }
 {
-    let mut span = no_rows();
-    let mut r: usize = 0;
-    while r < rows {
+    let mut span = zeros::<ROWS>();
+    for r in 0..rows {
         span[r] = row_span(ticks, lasts, processes, r, sender[r]);
-        r += 1;
     }
     span
 }
@@ -105,8 +102,7 @@ fn row_size(bytes: &[u32; EDGES], processes: usize, conditionrow: usize, row: us
     ensures { result ≡ size_of_row bytes.now processes conditionrow row }
 {
     if row < conditionrow {
-        let e = difference_usize(row, processes);
-        return bytes[e];
+        return bytes[row.saturating_sub(processes)];
     }
     1
 }
@@ -123,11 +119,9 @@ pub(crate) fn row_sizes(
     requires fact_3 { rows ≤ ROWS }
     ensures { result ≡ sizes_by_row bytes.now processes conditionrow rows }
 {
-    let mut size = no_rows();
-    let mut r: usize = 0;
-    while r < rows {
+    let mut size = zeros::<ROWS>();
+    for r in 0..rows {
         size[r] = row_size(bytes, processes, conditionrow, r);
-        r += 1;
     }
     size
 }

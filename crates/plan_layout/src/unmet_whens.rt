@@ -14,10 +14,7 @@ use plan_index::{Index, condition_of, edges_of, kind_of};
 fn differ(a: u32, b: u32) -> u32
     ensures { result ≡ differs a b }
 {
-    if a == b {
-        return 0;
-    }
-    1
+    u32::from(a != b)
 }
 
 // The values of conditions 0 to 5 in a combination: 1 for true, 0 for false.
@@ -26,16 +23,15 @@ fn values(combination: u32) -> [u32; CONDITIONS]
 {
     let mut value = [0u32; CONDITIONS];
     let mut rest = combination;
-    let mut k: usize = 0;
-    while k < CONDITIONS {
+    for k in 0..CONDITIONS {
         value[k] = rest % 2;
-        rest = rest / 2;
-        k += 1;
+        rest /= 2;
     }
     value
 }
 
-// Whether a `when` of this kind is unmet where its condition has this value: 1, or 0.
+// Whether a `when` of this kind is unmet where its condition has this value: 1, or 0. Kinds are numbers, since the one
+// array of the plan index holds them so.
 fn is_unmet(kind: u32, value: u32) -> u32
     ensures { result ≡ unmet_of kind value }
 {
@@ -57,13 +53,11 @@ pub fn find_unmet(index: &Index, combination: u32, rows: &mut Rows)
 {
     let value = values(combination);
     let edges = edges_of(index);
-    let mut e: usize = 0;
-    while e < edges {
+    for e in 0..edges {
         let when = kind_of(index, e);
         if when != 0 {
             let k = condition_of(index, e);
             put_unmet(rows, e, is_unmet(when, value[k]));
         }
-        e += 1;
     }
 }

@@ -1,4 +1,4 @@
--- The arrays of a plan in which refusals 2 to 9 find nothing, and what is worked out of them, are what the model says
+-- The lines in memory of a plan in which refusals 2 to 9 find nothing, and what is worked out of them, are what the model says
 -- of its lines; and what the fixed orders say of a plan, part by part.
 -- Assumes nothing.
 use Rattle.std.specs.Prelude.{if◌then◌else◌}
@@ -8,7 +8,7 @@ use mathlib.Core.List.{List, ◌∷◌, ◌++◌, map, Memᴰ as In}
 use Prim.Native.Nat.{ℕ, zero, suc, ◌+◌, ◌-◌, ◌≤◌, ◌<◌}
 use native.Mathlib.Omega.{arith}
 use lib.Dec.{eqb}
-use lib.ListN.{length, get_or, replicate}
+use lib.ListN.{length, get_or, replicate, get_or-map, length-map}
 use borrow.Author.Tests.{ne_eqb}
 use Rattle.lists.specs.Lists.{keep, below, greatest, fill}
 use Rattle.lists.specs.Ordered.{sort}
@@ -18,6 +18,7 @@ use Rattle.lists.proofs.Keep.{keep_same, each_same, length_upfrom}
 use Rattle.lists.proofs.Fill.{fill_at, zeros_at, padded_at}
 use Rattle.lists.proofs.Sorting.{sort_in}
 use Rattle.lists.proofs.Insertion.{sort_same, sort_level, length_sort}
+use Rattle.model.specs.Plan as m
 use Rattle.model.specs.Plan.{Lines, process, edge, processes, edges, into, out_of, unit}
 use Rattle.model.specs.Planning.{urgencies_from, urgencies, weights_by, weights, dispatch_order, queue}
 use Rattle.model.specs.Refusals.{nothing, wrong_counts, plan_refusal}
@@ -25,12 +26,13 @@ use Rattle.laws.proofs.Good.{Good, pass, good}
 use Rattle.plan.specs.declared.Pick.{Pick}
 use Rattle.plan.specs.declared.Pick.TheVariants.{Urgency, Number}
 use Rattle.plan.specs.declared.Plan.{Plan}
-use Rattle.plan.specs.declared.tables.ProcessTable.{ProcessTable}
-use Rattle.plan.specs.declared.tables.EdgeTable.{EdgeTable}
-use Rattle.plan.specs.Memory.{pick_of, lines}
+use Rattle.plan.specs.declared.Process.{Process}
+use Rattle.plan.specs.declared.Edge.{Edge}
+use Rattle.plan.specs.Memory.{pick_of, process_of, edge_of, no_process, no_edge, lines}
+use Rattle.plan.specs.Numbers.{node_at, ticks_at, from_at, to_at}
 use Rattle.plan.specs.Tests.{at}
-use Rattle.plan.specs.Tables.{processes_table, edges_table}
-use Rattle.plan.proofs.TestsOnLines.{Few, few, counts_same, slots_length, processes_length, edges_length, process_node, process_ticks, edge_from, edge_to}
+use Rattle.plan.proofs.Counted.{in_column}
+use Rattle.plan.proofs.TestsOnLines.{Few, few, counts_same, slots_length, processes_length, edges_length}
 use Rattle.plan_order.specs.Urgency.{Upward, after, urgencies_of}
 use Rattle.plan_order.specs.Weights.{weights_of, sender_key}
 use Rattle.plan_order.specs.declared.by_key.Groups.{Groups}
@@ -64,95 +66,118 @@ module _ (p : Plan) (h : plan_refusal (lines p) ≡ nothing) where
   facts : Good (lines p)
   facts = good (lines p) h
 
-  module _ {q : ProcessTable} {t : EdgeTable} (eq : q ≡ processes_table p) (et : t ≡ edges_table p) where
-    node : (i : ℕ) → at q.node i ≡ (process (lines p) i).node
-    node i = ap (λ (q : ProcessTable). at q.node i) eq ∙ process_node p counts i
+  -- the lines in memory
+  module _ (ps : List Process) (es : List Edge) (eq : map process_of ps ≡ (lines p).processes) (et : map edge_of es ≡ (lines p).edges) where
+    pub processes_same : length ps ≡ length (lines p).processes
+    processes_same = sym (length-map ps process_of) ∙ ap length eq
 
-    ticks : (i : ℕ) → at q.ticks i ≡ (process (lines p) i).ticks
-    ticks i = ap (λ (q : ProcessTable). at q.ticks i) eq ∙ process_ticks p counts i
+    pub edges_same : length es ≡ length (lines p).edges
+    edges_same = sym (length-map es edge_of) ∙ ap length et
 
-    from : (e : ℕ) → at t.from e ≡ (edge (lines p) e).from
-    from e = ap (λ (t : EdgeTable). at t.from e) et ∙ edge_from p counts e
+    pub few_processes : length ps ≤ 64
+    few_processes = omega (arith, processes_same, processes_length p, counts.processes)
 
-    to : (e : ℕ) → at t.to e ≡ (edge (lines p) e).to
-    to e = ap (λ (t : EdgeTable). at t.to e) et ∙ edge_to p counts e
+    pub few_edges : length es ≤ 128
+    few_edges = omega (arith, edges_same, edges_length p, counts.edges)
 
-    pub upward : Upward (at t.from) (at t.to) p.edges
-    upward e l = omega (arith, from e, to e, facts.upward e (omega (arith, edges_length p)))
+    pub process_same : (i : ℕ) → process_of (get_or ps i no_process) ≡ process (lines p) i
+    process_same i = sym (get_or-map process_of ps i no_process) ∙ ap (λ (xs : List m.Process). get_or xs i (process_of no_process)) eq
 
-    pub few_ticks : (i : ℕ) → i < p.processes → at q.ticks i ≤ 100000
-    few_ticks i l = omega (arith, ticks i, facts.ticks_most i (omega (arith, processes_length p)))
+    pub edge_same : (e : ℕ) → edge_of (get_or es e no_edge) ≡ edge (lines p) e
+    edge_same e = sym (get_or-map edge_of es e no_edge) ∙ ap (λ (xs : List m.Edge). get_or xs e (edge_of no_edge)) et
+
+    node : {ns : List ℕ} → ns ≡ fill 64 (node_at ps) (length ps) → (i : ℕ) → at ns i ≡ (process (lines p) i).node
+    node s i =
+        ap (λ (v : List ℕ). at v i) s ∙ in_column (λ q. q.node) no_process ps 64 refl few_processes i ∙ ap (λ (q : m.Process). q.node) (process_same i)
+
+    ticks : (i : ℕ) → ticks_at ps i ≡ (process (lines p) i).ticks
+    ticks i = ap (λ (q : m.Process). q.ticks) (process_same i)
+
+    from : (e : ℕ) → from_at es e ≡ (edge (lines p) e).from
+    from e = ap (λ (e : m.Edge). e.from) (edge_same e)
+
+    to : (e : ℕ) → to_at es e ≡ (edge (lines p) e).to
+    to e = ap (λ (e : m.Edge). e.to) (edge_same e)
+
+    receiver : {t : List ℕ} → t ≡ fill 128 (to_at es) (length es) → (e : ℕ) → at t e ≡ (edge (lines p) e).to
+    receiver s e = ap (λ (v : List ℕ). at v e) s ∙ in_column (λ e. e.to) no_edge es 128 refl few_edges e ∙ to e
+
+    pub upward : Upward (from_at es) (to_at es) (length es)
+    upward e l = omega (arith, from e, to e, facts.upward e (omega (arith, edges_same)))
+
+    pub few_ticks : (i : ℕ) → i < length ps → ticks_at ps i ≤ 100000
+    few_ticks i l = omega (arith, ticks i, facts.ticks_most i (omega (arith, processes_same)))
 
     -- the weights
-    same_urgencies : (k : ℕ) → get_or (urgencies_of (at q.ticks) (at t.from) (at t.to) p.edges 0 p.processes) k 0 ≡ get_or (urgencies (lines p)) k 0
+    same_urgencies : (k : ℕ) → get_or (urgencies_of (ticks_at ps) (from_at es) (to_at es) (length es) 0 (length ps)) k 0 ≡ get_or (urgencies (lines p)) k 0
     unfolding urgencies
     same_urgencies k =
-        (λ j. get_or (urgencies_of (λ i. ticks i j) (λ e. from e j) (λ e. to e j) (sym (edges_length p) j) 0 (sym (processes_length p) j)) k 0)
+        (λ j. get_or (urgencies_of (λ i. ticks i j) (λ e. from e j) (λ e. to e j) (edges_same j) 0 (processes_same j)) k 0)
         ∙ ap (λ (u : List ℕ). get_or u k 0) (urgencies_lines (lines p) 0 (length (lines p).processes))
 
-    pub same_weights : (u : List ℕ) {w : List ℕ} → u ≡ urgencies_of (at q.ticks) (at t.from) (at t.to) p.edges 0 p.processes ++ replicate (64 - p.processes) 0 →
+    pub same_weights : (u : List ℕ) {w : List ℕ} → u ≡ urgencies_of (ticks_at ps) (from_at es) (to_at es) (length es) 0 (length ps) ++ replicate (64 - (length ps)) 0 →
         w ≡ weights_of p.line.pick u → (k : ℕ) → at w k ≡ get_or (weights (lines p)) k 0
     unfolding lines weights weights_by
     same_weights u {w} e r k = ap (λ (v : List ℕ). at v k) r ∙ by p.line.pick
       where
         by : (c : Pick) → at (weights_of c u) k ≡ get_or (weights_by (lines p) (pick_of c)) k 0
-        by Urgency = ap (λ (v : List ℕ). at v k) e ∙ padded_at (urgencies_of (at q.ticks) (at t.from) (at t.to) p.edges 0 p.processes) (64 - p.processes) k ∙ same_urgencies k
+        by Urgency = ap (λ (v : List ℕ). at v k) e ∙ padded_at (urgencies_of (ticks_at ps) (from_at es) (to_at es) (length es) 0 (length ps)) (64 - (length ps)) k ∙ same_urgencies k
         by Number = zeros_at 64 k
 
     module _ (w : List ℕ) (e : (k : ℕ) → at w k ≡ get_or (weights (lines p)) k 0) where
-      pub same_dispatch_order : sort (at w) (below p.processes) ≡ dispatch_order (lines p)
+      pub same_dispatch_order : sort (at w) (below (length ps)) ≡ dispatch_order (lines p)
       unfolding dispatch_order
-      same_dispatch_order = λ j. sort (λ i. e i j) (below (sym (processes_length p) j))
+      same_dispatch_order = λ j. sort (λ i. e i j) (below (processes_same j))
 
-      pub same_queue : {r : List ℕ} → r ≡ fill 128 (λ i. at w (at t.to i)) p.edges → sort (at r) (below p.edges) ≡ queue (lines p)
+      pub same_queue : {r : List ℕ} → r ≡ fill 128 (λ i. at w (to_at es i)) (length es) → sort (at r) (below (length es)) ≡ queue (lines p)
       unfolding queue
       same_queue {r} s =
-          let f : ℕ → ℕ = λ i. at w (at t.to i) in
-          sort_same (at r) f (below p.edges) (λ x m. ap (λ (v : List ℕ). at v x) s ∙ fill_at 128 f p.edges x counts.edges (below_in p.edges m))
-          ∙ (λ j. sort (λ i. (e (at t.to i) ∙ ap (λ (k : ℕ). get_or (weights (lines p)) k 0) (to i)) j) (below (sym (edges_length p) j)))
+          let f : ℕ → ℕ = λ i. at w (to_at es i) in
+          sort_same (at r) f (below (length es)) (λ x m. ap (λ (v : List ℕ). at v x) s ∙ fill_at 128 f (length es) x few_edges (below_in (length es) m))
+          ∙ (λ j. sort (λ i. (e (to_at es i) ∙ ap (λ (k : ℕ). get_or (weights (lines p)) k 0) (to i)) j) (below (edges_same j)))
 
     -- the groups
-    pub same_into : {g : Groups} {z : List ℕ} → z ≡ replicate 128 0 → g ≡ groups_of (at t.to) (sort (at z) (below p.edges)) p.processes →
+    pub same_into : {g : Groups} {z t : List ℕ} → z ≡ replicate 128 0 → t ≡ fill 128 (to_at es) (length es) → g ≡ groups_of (at t) (sort (at z) (below (length es))) (length ps) →
         g ≡ record { first = places (into (lines p)) (length (lines p).processes); member = numbers (into (lines p)) (length (lines p).processes) }
     unfolding groups_of with_key
-    same_into {z = z} s r =
-        let same : (i : ℕ) → with_key (at t.to) (sort (at z) (below p.edges)) i ≡ into (lines p) i =
+    same_into {z = z} {t = t} s k r =
+        let same : (i : ℕ) → with_key (at t) (sort (at z) (below (length es))) i ≡ into (lines p) i =
         λ i.
-        ap (keep (λ e. eqb (at t.to e) i)) (sort_level (at z) (below p.edges) (λ k. ap (λ (v : List ℕ). at v k) s ∙ zeros_at 128 k))
-        ∙ (λ j. keep (λ e. eqb (to e j) i) (below (sym (edges_length p) j))) in
-        r ∙ (λ j. record { first = places (λ i. same i j) (sym (processes_length p) j); member = numbers (λ i. same i j) (sym (processes_length p) j) })
+        ap (keep (λ e. eqb (at t e) i)) (sort_level (at z) (below (length es)) (λ n. ap (λ (v : List ℕ). at v n) s ∙ zeros_at 128 n))
+        ∙ (λ j. keep (λ e. eqb (receiver k e j) i) (below (edges_same j))) in
+        r ∙ (λ j. record { first = places (λ i. same i j) (processes_same j); member = numbers (λ i. same i j) (processes_same j) })
 
-    pub same_dispatch : {g : Groups} {xs : List ℕ} → xs ≡ dispatch_order (lines p) → g ≡ groups_of (at q.node) xs p.slots →
+    pub same_dispatch : {g : Groups} {ns xs : List ℕ} → ns ≡ fill 64 (node_at ps) (length ps) → xs ≡ dispatch_order (lines p) → g ≡ groups_of (at ns) xs p.slots →
         g ≡ record { first = places (dispatch_at (lines p)) (length (lines p).slots); member = numbers (dispatch_at (lines p)) (length (lines p).slots) }
     unfolding groups_of with_key unit
-    same_dispatch {xs = xs} s r =
-        let same : (u : ℕ) → with_key (at q.node) xs u ≡ dispatch_at (lines p) u = λ u j. keep (λ i. eqb (node i j) u) (s j) in
+    same_dispatch {ns = ns} {xs = xs} k s r =
+        let same : (u : ℕ) → with_key (at ns) xs u ≡ dispatch_at (lines p) u = λ u j. keep (λ i. eqb (node k i j) u) (s j) in
         r ∙ (λ j. record { first = places (λ u. same u j) (sym (slots_length p) j); member = numbers (λ u. same u j) (sym (slots_length p) j) })
 
-    same_messages : {s : List ℕ} → s ≡ fill 128 (λ e. sender_key (at q.node (at t.from e)) (at q.node (at t.to e))) p.edges →
+    same_messages : {ns s : List ℕ} → ns ≡ fill 64 (node_at ps) (length ps) → s ≡ fill 128 (λ e. sender_key (at ns (from_at es e)) (at ns (to_at es e))) (length es) →
         (n : ℕ) → n < p.slots → with_key (at s) (queue (lines p)) n ≡ queue_at (lines p) n
     unfolding with_key queue
-    same_messages {s} r n l =
-        let f : ℕ → ℕ = λ e. sender_key (at q.node (at t.from e)) (at q.node (at t.to e)) in
+    same_messages {ns} {s} k r n l =
+        let f : ℕ → ℕ = λ e. sender_key (at ns (from_at es e)) (at ns (to_at es e)) in
         keep_same _ _ (queue (lines p)) (λ e m.
         let i : e < length (lines p).edges = below_in (length (lines p).edges) (sort_in _ (below (length (lines p).edges)) m) in
         ap (λ (v : List ℕ). eqb (at v e) n) r
-        ∙ ap (λ (k : ℕ). eqb k n) (fill_at 128 f p.edges e counts.edges (omega (arith, edges_length p)))
+        ∙ ap (λ (x : ℕ). eqb x n) (fill_at 128 f (length es) e few_edges (omega (arith, edges_same)))
         ∙ (λ j. eqb (sender_key (node_of (from e) j) (node_of (to e) j)) n)
         ∙ sender_same (process (lines p) (edge (lines p) e).from).node (process (lines p) (edge (lines p) e).to).node n (omega (arith, counts.slots)))
       where
-        node_of : {i k : ℕ} → i ≡ k → at q.node i ≡ (process (lines p) k).node
-        node_of {i} e = node i ∙ ap (λ (k : ℕ). (process (lines p) k).node) e
+        node_of : {i k : ℕ} → i ≡ k → at ns i ≡ (process (lines p) k).node
+        node_of {i} e = node k i ∙ ap (λ (k : ℕ). (process (lines p) k).node) e
 
-    pub same_queues : {g : Groups} {xs s : List ℕ} → s ≡ fill 128 (λ e. sender_key (at q.node (at t.from e)) (at q.node (at t.to e))) p.edges →
+    pub same_queues : {g : Groups} {ns xs s : List ℕ} → ns ≡ fill 64 (node_at ps) (length ps) → s ≡ fill 128 (λ e. sender_key (at ns (from_at es e)) (at ns (to_at es e))) (length es) →
         xs ≡ queue (lines p) → g ≡ groups_of (at s) xs p.slots →
         g ≡ record { first = places (queue_at (lines p)) (length (lines p).slots); member = numbers (queue_at (lines p)) (length (lines p).slots) }
     unfolding groups_of
-    same_queues {s = s} k e r =
+    same_queues {s = s} w k e r =
         let a = with_key (at s) (queue (lines p)) in
         let b = queue_at (lines p) in
         r ∙ (λ j. record { first = places (with_key (at s) (e j)) p.slots; member = numbers (with_key (at s) (e j)) p.slots })
-        ∙ (λ j. record { first = places_same a b p.slots (same_messages k) j; member = numbers_same a b p.slots (same_messages k) j })
+        ∙ (λ j. record { first = places_same a b p.slots (same_messages w k) j; member = numbers_same a b p.slots (same_messages w k) j })
         ∙ (λ j. record { first = places b (sym (slots_length p) j); member = numbers b (sym (slots_length p) j) })
 
 -- What the orders say of a plan, part by part.

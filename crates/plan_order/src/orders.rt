@@ -1,10 +1,11 @@
 // The fixed orders of planning, worked out once for a plan: the edges into each process, the processes of each node in
 // dispatch order, and the messages of each node in the order of the queue.
-ghost use Rattle.std.specs.Prelude.{◌≡◌, ◌≤◌};
-ghost use Rattle.limits.specs.Limits.{EDGES};
+ghost use Rattle.std.specs.Prelude.{◌≡◌, ◌≤◌, length};
+ghost use Rattle.limits.specs.Limits.{PROCESSES, EDGES};
 ghost use Rattle.lists.specs.Lists.{fill};
 ghost use Rattle.model.specs.Refusals.{nothing, plan_refusal};
 ghost use Rattle.plan.specs.Memory.{lines};
+ghost use Rattle.plan.specs.Numbers.{node_at, from_at, to_at};
 ghost use Rattle.plan.specs.Tests.{at};
 ghost use Rattle.plan_order.specs.Weights.{weights_of, sender_key};
 ghost use Rattle.plan_order.specs.Orders.{orders_of};
@@ -12,9 +13,9 @@ ghost use Rattle.plan_order.specs.Orders.{orders_of};
 use crate::by_key::in_groups;
 use crate::by_weight::number_at;
 use crate::urgency::urgencies;
-use arrays::{no_edges, no_processes};
+use arrays::zeros;
 use limits::{EDGES, NONODE, PROCESSES, STARTS};
-use plan::{Pick, Plan, edge_table, process_table};
+use plan::{Edge, Pick, Plan, Process};
 
 // The edges into process i stand in `into` from place `intofirst[i]` up to place `intofirst[i + 1]`, the processes of a
 // node in dispatch order in `dispatch` from `dispatchfirst`, and the messages of a node in the order of the queue in
@@ -35,40 +36,55 @@ fn weights(pick: Pick, urgency: [u32; PROCESSES]) -> [u32; PROCESSES]
 {
     match pick {
         Pick::Urgency => urgency,
-        Pick::Number => no_processes(),
+        Pick::Number => zeros(),
     }
 }
 
-// The weight of each edge is that of the process it leads to.
-fn receiver_weights(weight: &[u32], to: &[u32; EDGES], edges: usize) -> [u32; EDGES]
-    requires { edges ≤ EDGES }
-    ensures { result ≡ fill EDGES (λ e. at weight.now (at to.now e)) edges }
+// The node of each process.
+fn nodes(processes: &[Process]) -> [u32; PROCESSES]
+    requires { length processes.now ≤ PROCESSES }
+    ensures { result ≡ fill PROCESSES (node_at processes.now) (length processes.now) }
 {
-    let mut w = no_edges();
-    let mut e: usize = 0;
-    while e < edges {
-        w[e] = number_at(weight, to[e]);
-        e += 1;
+    let mut node = zeros::<PROCESSES>();
+    for (i, q) in processes.iter().enumerate() {
+        node[i] = q.node;
+    }
+    node
+}
+
+// The process that each edge leads to.
+fn receivers(edges: &[Edge]) -> [u32; EDGES]
+    requires { length edges.now ≤ EDGES }
+    ensures { result ≡ fill EDGES (to_at edges.now) (length edges.now) }
+{
+    let mut to = zeros::<EDGES>();
+    for (k, e) in edges.iter().enumerate() {
+        to[k] = e.to;
+    }
+    to
+}
+
+// The weight of each edge is that of the process it leads to.
+fn receiver_weights(weight: &[u32], edges: &[Edge]) -> [u32; EDGES]
+    requires { length edges.now ≤ EDGES }
+    ensures { result ≡ fill EDGES (λ e. at weight.now (to_at edges.now e)) (length edges.now) }
+{
+    let mut w = zeros::<EDGES>();
+    for (k, e) in edges.iter().enumerate() {
+        w[k] = number_at(weight, e.to);
     }
     w
 }
 
 // The sending node of each edge between nodes; of a local edge 8, which is no node.
-fn sender_keys<'a>(
-    node: &'a [u32],
-    from: &'a [u32; EDGES],
-    to: &'a [u32; EDGES],
-    edges: usize,
-) -> [u32; EDGES]
-    requires { edges ≤ EDGES }
-    ensures { result ≡ fill EDGES (λ e. sender_key (at node.now (at from.now e))
-        (at node.now (at to.now e))) edges }
+fn sender_keys(node: &[u32], edges: &[Edge]) -> [u32; EDGES]
+    requires { length edges.now ≤ EDGES }
+    ensures { result ≡ fill EDGES (λ e. sender_key (at node.now (from_at edges.now e))
+        (at node.now (to_at edges.now e))) (length edges.now) }
 {
-    let mut key = no_edges();
-    let mut e: usize = 0;
-    while e < edges {
-        key[e] = sender_key(number_at(node, from[e]), number_at(node, to[e]));
-        e += 1;
+    let mut key = zeros::<EDGES>();
+    for (k, e) in edges.iter().enumerate() {
+        key[k] = sender_key(number_at(node, e.from), number_at(node, e.to));
     }
     key
 }
@@ -87,18 +103,21 @@ pub fn fixed_orders(p: Plan) -> Orders
     requires { plan_refusal (lines p) ≡ nothing }
     ensures { result ≡ orders_of (lines p) }
 {
-    let q = process_table(p);
-    let e = edge_table(p);
-    let urgency = urgencies(&q.ticks, p.processes, &e.from, &e.to, p.edges);
+    let processes = p.process_lines();
+    let edges = p.edge_lines();
+    let node = nodes(processes);
+    let to = receivers(edges);
+    let urgency = urgencies(processes, edges);
     let line = p.line;
     let pick = line.pick;
     let weight = weights(pick, urgency);
-    let receiver = receiver_weights(&weight, &e.to, p.edges);
-    let sender = sender_keys(&q.node, &e.from, &e.to, p.edges);
-    let none = no_edges();
-    let a = in_groups(&none, p.edges, &e.to, p.processes);
-    let b = in_groups(&weight, p.processes, &q.node, p.slots);
-    let c = in_groups(&receiver, p.edges, &sender, p.slots);
+    let receiver = receiver_weights(&weight, edges);
+    let sender = sender_keys(&node, edges);
+    let none = zeros::<EDGES>();
+    let a = in_groups(&none, edges.len(), &to, processes.len());
+    let b = in_groups(&weight, processes.len(), &node, p.slots);
+    let c = in_groups(&receiver, edges.len(), &sender, p.slots);
+    // A variable for each array: the borrow checker takes no array out of a struct within a literal.
     let intofirst = a.first;
     let into = a.member;
     let dispatchfirst = b.first;

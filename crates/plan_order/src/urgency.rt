@@ -1,58 +1,43 @@
 // The urgency of each process of a plan, in an array.
-ghost use Rattle.std.specs.Prelude.{◌≡◌, ◌++◌, ℕ, ◌-◌, ◌<◌, ◌≤◌, replicate};
-ghost use Rattle.limits.specs.Limits.{PROCESSES, EDGES, TICKS};
+ghost use Rattle.std.specs.Prelude.{◌≡◌, ◌++◌, ℕ, ◌-◌, ◌<◌, ◌≤◌, length, replicate};
+ghost use Rattle.limits.specs.Limits.{PROCESSES, TICKS};
+ghost use Rattle.plan.specs.Numbers.{ticks_at, from_at, to_at};
 ghost use Rattle.plan.specs.Tests.{at};
 ghost use Rattle.plan_order.specs.Urgency.{Upward, after, urgencies_of};
 
 use crate::by_weight::number_at;
-use arrays::{greater, no_processes};
-use limits::{EDGES, PROCESSES};
+use arrays::zeros;
+use limits::PROCESSES;
+use plan::{Edge, Process};
 
 // The greatest urgency among those that the edges out of process i lead to, 0 if there are none.
-fn greatest_after<'a>(
-    from: &'a [u32; EDGES],
-    to: &'a [u32; EDGES],
-    edges: usize,
-    urgency: &'a [u32],
-    i: u32,
-) -> u32
-    requires { edges ≤ EDGES }
-    ensures { result ≡ after (at from.now) (at to.now) edges (at urgency.now) i }
+fn greatest_after(edges: &[Edge], urgency: &[u32], i: u32) -> u32
+    ensures { result ≡ after (from_at edges.now) (to_at edges.now) (length edges.now)
+        (at urgency.now) i }
 {
     let mut most: u32 = 0;
-    let mut e: usize = 0;
-    while e < edges {
-        if from[e] == i {
-            most = greater(most, number_at(urgency, to[e]));
+    for e in edges {
+        if e.from == i {
+            most = most.max(number_at(urgency, e.to));
         }
-        e += 1;
     }
     most
 }
 
-// The urgency of each of n processes, from the last one down: its ticks and the greatest urgency among those its edges
-// lead to. Zeros stand behind them.
-pub(crate) fn urgencies<'a>(
-    ticks: &'a [u32; PROCESSES],
-    n: usize,
-    from: &'a [u32; EDGES],
-    to: &'a [u32; EDGES],
-    edges: usize,
-) -> [u32; PROCESSES]
-    requires fact_1 { n ≤ PROCESSES }
-    requires fact_2 { edges ≤ EDGES }
-    requires fact_3 { ((i : ℕ) → i < n → at ticks.now i ≤ TICKS) }
-    requires fact_4 { Upward (at from.now) (at to.now) edges }
-    ensures { result ≡ urgencies_of (at ticks.now) (at from.now) (at to.now) edges 0
-        n ++ replicate (PROCESSES - n) 0 }
+// The urgency of each process, from the last one down: its ticks and the greatest urgency among those its edges lead
+// to. Zeros stand behind them.
+pub(crate) fn urgencies(processes: &[Process], edges: &[Edge]) -> [u32; PROCESSES]
+    requires fact_1 { length processes.now ≤ PROCESSES }
+    requires fact_2 { ((i : ℕ) → i < length processes.now → ticks_at processes.now i ≤ TICKS) }
+    requires fact_3 { Upward (from_at edges.now) (to_at edges.now) (length edges.now) }
+    ensures { result ≡ urgencies_of (ticks_at processes.now) (from_at edges.now) (to_at edges.now)
+        (length edges.now) 0 (length processes.now)
+        ++ replicate (PROCESSES - length processes.now) 0 }
 {
-    let mut urgency = no_processes();
-    let mut i = n;
-    while 0 < i {
-        i -= 1;
-        let later = greatest_after(from, to, edges, &urgency, i as u32);
-        let own = ticks[i];
-        urgency[i] = own + later;
+    let mut urgency = zeros::<PROCESSES>();
+    for i in (0..processes.len()).rev() {
+        let later = greatest_after(edges, &urgency, i as u32);
+        urgency[i] = processes[i].ticks + later;
     }
     urgency
 }

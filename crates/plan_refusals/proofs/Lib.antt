@@ -1,4 +1,3 @@
--- Laws of refusals: TestsKnown (tests over the tables that code made of a plan, and tests on its lines). And for the
--- crates above, Accepted (what is read as some lines).
-pub mod TestsKnown
+-- Joins (the value of `a || b`). And for the crates above: Accepted (what is read as some lines).
+pub mod Joins
 pub mod Accepted

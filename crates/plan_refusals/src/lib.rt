@@ -2,7 +2,7 @@
 // Document 01: "Each sentence is tried over the whole input before the next."
 #![tactic(auto)]
 
+mod lines;
 mod sentences;
-mod tables;
 
-pub use sentences::{Refusal, refuse};
+pub use sentences::refuse;

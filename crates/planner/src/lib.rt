@@ -7,12 +7,14 @@ ghost use Rattle.std.specs.Prelude.{◌≡◌, length};
 ghost use Rattle.model.specs.Table.{plan_answer, table_after, frames_after, counts_after};
 ghost use Rattle.plan.specs.Memory.{lines};
 ghost use Rattle.planner_table.specs.Planner.{answer_of};
+ghost use Rattle.refusals.specs.Numbers.{numbered};
 
 use limits::NODES;
 use plan::Plan;
-use plan_refusals::{Refusal, refuse};
+use plan_refusals::refuse;
+pub use planner_table::Made;
 use planner_table::plan_accepted;
-pub use planner_table::{Made, Planned};
+use refusals::Refusal;
 
 // Plans any plan in memory: the start table is written to the front of `table`, five words to an entry, and the frame
 // list to the front of `frames`, three words to a frame, and to the front of `passed` go the pass-over counts of the
@@ -23,8 +25,8 @@ pub fn plan_table(
     table: &mut [u32],
     frames: &mut [u32],
     passed: &mut [u32; NODES],
-) -> Planned
-    ensures answer { result ≡ answer_of (plan_answer (lines p) (length table.old)
+) -> Result<Made, Refusal>
+    ensures answer { numbered result ≡ answer_of (plan_answer (lines p) (length table.old)
         (length frames.old)) }
     ensures table { table.new ≡ table_after (plan_answer (lines p) (length table.old)
         (length frames.old)) table.old }
@@ -33,9 +35,6 @@ pub fn plan_table(
     ensures counts { passed.new ≡ counts_after
         (plan_answer (lines p) (length table.old) (length frames.old)) passed.old }
 {
-    let refusal = refuse(p);
-    match refusal {
-        Refusal::Refused(n) => Planned::Refused(n),
-        Refusal::Nothing => plan_accepted(p, table, frames, passed),
-    }
+    refuse(p)?;
+    plan_accepted(p, table, frames, passed)
 }

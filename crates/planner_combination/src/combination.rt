@@ -21,11 +21,9 @@ fn begin_nodes(start: u32, nodes: &mut Nodes)
     ensures { nodes_of nodes.new ≡ with_nextsend (replicate NODES NEVER)
         (with_lastarrival (replicate NODES start) (nodes_of nodes.old)) }
 {
-    let mut n: usize = 0;
-    while n < NODES {
+    for n in 0..NODES {
         put_lastarrival(nodes, n, start);
         put_nextsend(nodes, n, NEVER);
-        n += 1;
     }
 }
 

@@ -18,7 +18,7 @@ use log_queries::update_may_run;
 use log_rows::{Rows, comes_of};
 use plan_index::{Index, conditionrow_of, conditions_of, slots_of};
 use planner_dispatch::starts;
-use planner_nodes::{Nodes, passed_of, put_noted};
+use planner_nodes::{NOTED_AT, Nodes, PASSED_AT};
 use planner_packing::{Ends, send_slot};
 use planner_sends::{
     changed_nodes, changes, current_round, ends_after, next_event, sending_node, sooner,
@@ -31,12 +31,7 @@ fn note_counts(k: usize, nodes: &mut Nodes)
     ensures { nodes_of nodes.new ≡ with_noted (sets (nodes_of nodes.old).noted (k * NODES)
         (nodes_of nodes.old).passed) (nodes_of nodes.old) }
 {
-    let mut n: usize = 0;
-    while n < NODES {
-        let x = passed_of(nodes, n);
-        put_noted(nodes, k * NODES + n, x);
-        n += 1;
-    }
+    nodes.copy_within(PASSED_AT..PASSED_AT + NODES, NOTED_AT + k * NODES);
 }
 
 // Notes the counts for condition k, whose row is `row`, if its value becomes known at clock u.
@@ -62,10 +57,8 @@ fn note_all(index: &Index, rows: &Rows, u: u32, nodes: &mut Nodes)
 {
     let first = conditionrow_of(index);
     let conditions = conditions_of(index);
-    let mut k: usize = 0;
-    while k < conditions {
+    for k in 0..conditions {
         note_one(rows, u, first + k, k, nodes);
-        k += 1;
     }
 }
 
@@ -86,10 +79,11 @@ fn new_nodes(nodes: &Nodes, come: u32, u: u32) -> u32
     ensures { (result < 256) × (come ≡ u → (n : ℕ) → n < NODES → bit result n
         ≡ new_at (nodes_of nodes.now).lastarrival (nodes_of nodes.now).busy u n) }
 {
-    if come != u {
-        return 0;
+    if come == u {
+        changed_nodes(nodes, u)
+    } else {
+        0
     }
-    changed_nodes(nodes, u)
 }
 
 // Each free node starts, where a row is over at this clock. Where none is, no node can start. A node that is not in the
@@ -102,9 +96,10 @@ fn begin(index: &Index, come: u32, u: u32, new: u32, rows: &mut Rows, nodes: &mu
         (nodes_of nodes.old) (rows_of rows.new) (nodes_of nodes.new) result }
 {
     if come == u {
-        return starts(index, u, new, rows, nodes);
+        starts(index, u, new, rows, nodes)
+    } else {
+        NEVER
     }
-    NEVER
 }
 
 // Where planning stands: the clock of the event, the clock at which a row is next over, the end of the last slot used,
@@ -141,10 +136,10 @@ pub(crate) fn event(index: &Index, at: Clocks, rows: &mut Rows, nodes: &mut Node
     update_next_sends(index, rows, look, broadcastend, u, new, begun, nodes);
     let first = begin(index, come, u, new, rows, nodes);
     let slots = slots_of(index);
-    let n = sending_node(nodes, slots, u);
+    let node = sending_node(nodes, slots, u);
     let s = send_slot(
         index,
-        n,
+        node,
         u,
         Ends {
             slotend,

@@ -12,7 +12,7 @@ ghost use Rattle.plan_index.specs.Index.{laid};
 ghost use Rattle.plan_layout.specs.Indexed.{Indexed};
 ghost use Rattle.planner_combinations.specs.Combinations.{Laid_out, Before, One, PlannedAll};
 
-use arrays::{greater, no_counts, wide};
+use arrays::wide;
 use bitset::combinations_of;
 use limits::{COMBINATIONS, ENTRIES, NODES, NOTES};
 use log_queries::last_end;
@@ -86,11 +86,10 @@ pub fn plan_combinations(
 {
     let n = how_many(conditions_of(index));
     let mut notes = [1u32; NOTES];
-    let mut passed = no_counts();
+    let mut passed = [0u32; NODES];
     let mut rows = empty_rows();
     let mut latest: u32 = 0;
-    let mut c: usize = 0;
-    while c < n {
+    for c in 0..n {
         let last = plan_one(
             index,
             c,
@@ -101,8 +100,7 @@ pub fn plan_combinations(
             &mut passed,
             &mut rows,
         );
-        latest = greater(latest, last);
-        c += 1;
+        latest = latest.max(last);
     }
     Totals {
         delay: latest,

@@ -3,7 +3,7 @@
 // Document 01: "Each free node starts its ready process of highest urgency, ties to the lower number."
 #![tactic(auto)]
 
-ghost use Rattle.std.specs.Prelude.{◌≡◌, ◌⊎◌, ◌<◌, ◌≤◌};
+ghost use Rattle.std.specs.Prelude.{◌≡◌, ◌⊎◌, ◌<◌, ◌≤◌, unwrap_or, IfSome};
 ghost use Rattle.limits.specs.Limits.{NODES, PROCESSES, EDGES, LASTCLOCK};
 ghost use Rattle.plan_index.specs.Index.{laid, Bounded};
 ghost use Rattle.log_rows.specs.Rows.{rows_of, with_comes};
@@ -23,27 +23,22 @@ fn can_start(index: &Index, rows: &Rows, i: usize, u: u32) -> bool
     requires { (i < PROCESSES) × Bounded (laid index.now) }
     ensures { result ≡ can_start_in (laid index.now) (rows_of rows.now) u i }
 {
-    if comes_of(rows, i) != 0 {
-        return false;
-    }
-    ready(index, rows, i, u)
+    comes_of(rows, i) == 0 && ready(index, rows, i, u)
 }
 
-// The first process of dispatch[a .. b] that has not started and is ready, or 64.
-fn pick(index: &Index, rows: &Rows, a: usize, b: usize, u: u32) -> usize
+// The first process of dispatch[a .. b] that has not started and is ready.
+fn pick(index: &Index, rows: &Rows, a: usize, b: usize, u: u32) -> Option<usize>
     requires { (b ≤ EDGES) × Bounded (laid index.now) }
-    ensures { (result ≡ picked (laid index.now) (rows_of rows.now) u a b)
-        × (result ≤ PROCESSES) }
+    ensures first { unwrap_or result PROCESSES ≡ picked (laid index.now) (rows_of rows.now) u a b }
+    ensures among { IfSome result (λ i. i < PROCESSES) }
 {
-    let mut j = a;
-    while j < b {
+    for j in a..b {
         let i = dispatch_of(index, j);
         if can_start(index, rows, i, u) {
-            return i;
+            return Some(i);
         }
-        j += 1;
     }
-    64
+    None
 }
 
 // The start of a free node whose processes stand in dispatch[a .. b] and whose last one ended at `last`: where one of
@@ -56,26 +51,21 @@ fn start(index: &Index, a: usize, b: usize, u: u32, last: u32, rows: &mut Rows) 
         (rows_after (picked (laid index.now) (rows_of rows.old) u a b) u
         (laid index.now).ticks (rows_of rows.old).comes) (rows_of rows.old) }
 {
-    let x = pick(index, rows, a, b, u);
-    if x == 64 {
+    let Some(x) = pick(index, rows, a, b, u) else {
         return last;
-    }
+    };
     let end = u + ticks_of(index, x);
     put_comes(rows, x, end);
     end
 }
 
 // The end of a process that starts, where it is the first to end so far, or else the first so far. A process that ends
-// by the clock u has not started at it.
+// by the clock u has not started at it. `planner_sends::sooner` promises an equation; one function of both would be no
+// plainer, since its contract would hold that beside these bounds.
 fn sooner_end(first: u32, end: u32, u: u32) -> u32
     ensures { (result ≤ first) × (u < end → result ≤ end) × ((result ≡ first) ⊎ ((u < end) × (result ≡ end))) }
 {
-    if u < end {
-        if end < first {
-            return end;
-        }
-    }
-    first
+    if u < end { first.min(end) } else { first }
 }
 
 // Node n starts, if it is one of the nodes and free. `first` is the end of the process that ends first of those that
@@ -109,7 +99,7 @@ fn start_node(
 // Each free node starts its first ready process in dispatch order that has not started: `busy` has then the end of each
 // node's last process, and `comes` the end of each process. `new` is the mask of the nodes for which something is new
 // at this clock; the others have nothing to start and are passed by. The answer is the end of the process that ends
-// first of those that start, or `NEVER`.
+// first of those that start, or `NEVER` (no Option: it is compared with clocks, as the latest).
 pub fn starts(index: &Index, u: u32, new: u32, rows: &mut Rows, nodes: &mut Nodes) -> u32
     requires { Bounded (laid index.now) × (u ≤ LASTCLOCK) × (new < 256)
         × NothingNew (laid index.now) (rows_of rows.old) (nodes_of nodes.old).busy u new }

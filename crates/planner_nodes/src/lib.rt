@@ -29,7 +29,9 @@ pub const WAIT_AT: usize = NOTED_AT + NOTED;
 // How many numbers there are.
 pub const WORDS: usize = WAIT_AT + EDGES;
 
-// What planning keeps of a combination by node.
+// What planning keeps of a combination by node. It is one array and no struct of arrays: fixed memory is lent as one
+// array with named offsets, and the contracts above speak of its fields by `nodes_of`. Each field has a reader and a
+// store, which name it in their contracts.
 pub type Nodes = [u32; WORDS];
 
 // The clock at which the last process of node n ends, 0 if it has started none.

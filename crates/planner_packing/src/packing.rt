@@ -19,7 +19,8 @@ use plan_index::{
 use planner_nodes::{Nodes, put_lastarrival, put_wait, wait_of, waitend_of};
 use planner_sends::{Taken, pending_broadcasts, take_broadcasts};
 
-// Moves the messages that wait at the places from j to before z down to place k. The place behind them.
+// Moves the messages that wait at the places from j to before z down to place k. The place behind them. `copy_within`
+// is no plainer: a place of `Nodes` would be named by its offset, and not by its reader and store.
 fn move_down(nodes: &mut Nodes, k: usize, j: usize, z: usize) -> usize
     requires { (k ≤ j) × (j ≤ z) × (z ≤ EDGES) × (length (nodes_of nodes.old).wait ≡ EDGES) }
     ensures listed { Listed (nodes_of nodes.old).wait (nodes_of nodes.new).wait k result
@@ -29,12 +30,10 @@ fn move_down(nodes: &mut Nodes, k: usize, j: usize, z: usize) -> usize
         (nodes_of nodes.old) }
 {
     let mut to = k;
-    let mut i = j;
-    while i < z {
+    for i in j..z {
         let e = wait_of(nodes, i);
         put_wait(nodes, to, e);
         to += 1;
-        i += 1;
     }
     to
 }
@@ -95,6 +94,7 @@ fn take_messages(
     let mut k = a;
     let mut next = a;
     let mut j = a;
+    // Nested loops, and a label that is left: document 01 asks for this form by name.
     'slot: while j < z {
         let left = room - used;
         if left == 0 {
@@ -131,10 +131,8 @@ fn arrive_all(slots: usize, end: u32, nodes: &mut Nodes)
         ≡ with_lastarrival (arrive_all end slots (nodes_of nodes.old).lastarrival)
         (nodes_of nodes.old) }
 {
-    let mut n: usize = 0;
-    while n < slots {
+    for n in 0..slots {
         put_lastarrival(nodes, n, end);
-        n += 1;
     }
 }
 

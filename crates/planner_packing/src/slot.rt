@@ -1,6 +1,6 @@
 // What the slot of a node takes as it begins, at which nodes that arrives, and when the slot next takes something.
 // specs/Sending.antt says the same of the arrays.
-ghost use Rattle.std.specs.Prelude.{◌≡◌, ◌<◌, ◌≤◌, get_or};
+ghost use Rattle.std.specs.Prelude.{◌≡◌, ◌<◌, ◌≤◌, get_or, unwrap_or, IfSome};
 ghost use Rattle.limits.specs.Limits.{NODES, LASTCLOCK};
 ghost use Rattle.plan_index.specs.Index.{laid, Bounded};
 ghost use Rattle.log_rows.specs.Rows.{rows_of};
@@ -10,7 +10,7 @@ ghost use Rattle.planner_packing.specs.Sending.{counted, Sendable, Fills, Sends}
 
 use crate::packing::send;
 use log_rows::Rows;
-use plan_index::{Index, lasts_of, round_of, slots_of};
+use plan_index::{Index, lasts_of, round_of};
 use planner_nodes::{Nodes, passed_of, put_nextsend, put_passed, put_waitend};
 use planner_sends::next_round;
 
@@ -68,24 +68,25 @@ fn fill(index: &Index, n: usize, u: u32, ends: Ends, rows: &mut Rows, nodes: &mu
     }
 }
 
-// The slot of node n takes its items at clock u, where n is a node; and what is kept by node goes on from there: at
-// which nodes an item arrives, and when the slot of node n next takes one, a round later if one is left.
+// The slot of a node takes its items at clock u, if one does; and what is kept by node goes on from there: at which
+// nodes an item arrives, and when the slot of the node next takes one, a round later if one is left.
 pub fn send_slot(
     index: &Index,
-    n: usize,
+    node: Option<usize>,
     u: u32,
     ends: Ends,
     rows: &mut Rows,
     nodes: &mut Nodes,
 ) -> Ends
     requires { (u ≤ LASTCLOCK) × Bounded (laid index.now) × Timed (laid index.now)
-        × Sendable (laid index.now) (nodes_of nodes.old) n u }
-    ensures { Sends (laid index.now) n u ends (rows_of rows.old)
+        × Sendable (laid index.now) (nodes_of nodes.old) (unwrap_or node (laid index.now).slots) u
+        × IfSome node (λ n. n < (laid index.now).slots) }
+    ensures { Sends (laid index.now) (unwrap_or node (laid index.now).slots) u ends (rows_of rows.old)
         (nodes_of nodes.old) result (rows_of rows.new) (nodes_of nodes.new) }
 {
-    if n == slots_of(index) {
+    let Some(n) = node else {
         return ends;
-    }
+    };
     let s = fill(index, n, u, ends, rows, nodes);
     put_waitend(nodes, n, s.behind);
     let next = next_round(round_of(index), u, s.short);

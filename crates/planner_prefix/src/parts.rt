@@ -3,15 +3,12 @@ ghost use Rattle.std.specs.Prelude.{◌≡◌, ◌+◌, ◌≤◌, length, repli
 ghost use Rattle.std.proofs.lemmas.List.Edits.{sets};
 ghost use Rattle.std.proofs.Math.Seq.{slice};
 
-use arrays::copy_at;
-
 // Stores n numbers of `from`, from place `at` on, in `to` from place `place` on.
 pub(crate) fn copy_numbers(from: &[u32], at: usize, n: usize, to: &mut [u32], place: usize)
     requires { (at + n ≤ length from.now) × (place + n ≤ length to.old) }
     ensures { to.new ≡ sets to.old place (slice at (at + n) from.now) }
 {
-    let end = at + n;
-    copy_at(&from[at..end], to, place);
+    to[place..place + n].copy_from_slice(&from[at..at + n]);
 }
 
 // Stores n zeros at the front of `to`.
@@ -19,9 +16,5 @@ pub(crate) fn clear(to: &mut [u32], n: usize)
     requires { n ≤ length to.old }
     ensures { to.new ≡ sets to.old 0 (replicate n 0) }
 {
-    let mut i: usize = 0;
-    while i < n {
-        to[i] = 0;
-        i += 1;
-    }
+    to[..n].fill(0);
 }

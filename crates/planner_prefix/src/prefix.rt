@@ -11,7 +11,6 @@ ghost use Rattle.planner_prefix.specs.Prefix.{cut_one, cut, ends_below, arrival,
 ghost use Rattle.planner_prefix.specs.Prefix.{counts_at, Shared};
 
 use crate::parts::{clear, copy_numbers};
-use arrays::{difference, greater};
 use limits::{COMBINATIONNOTES, ENTRIES, NEVER, NODES, NOTED, NOTES, ROWS};
 use log_rows::{COMES_AT, PLACE_AT, Rows, WORDS, comes_of, put_comes};
 use plan_index::{Index, conditionrow_of, conditions_of, node_of, processes_of, slots_of, span_of};
@@ -26,14 +25,12 @@ pub struct Source {
     pub clock: u32,
 }
 
-// The clock at which a value arrives: x, or `NEVER` where x is 0.
+// The clock at which a value arrives: x, or `NEVER` where x is 0 (no Option: it is compared with clocks, as the
+// latest).
 fn arrives(x: u32) -> u32
     ensures { result ≡ arrival x }
 {
-    if x == 0 {
-        return NEVER;
-    }
-    x
+    if x == 0 { NEVER } else { x }
 }
 
 // Of the best source so far and the combination without condition k, the one whose value arrives later. `power` is 2 to
@@ -78,12 +75,10 @@ fn source_of(comes: &[u32; ENTRIES], conditionrow: usize, conditions: usize, c: 
     };
     let mut rest = c;
     let mut power: usize = 1;
-    let mut k: usize = 0;
-    while k < conditions {
+    for k in 0..conditions {
         best = later(comes, conditionrow, c, k, power, rest % 2, best);
-        rest = rest / 2;
-        power = power * 2;
-        k += 1;
+        rest /= 2;
+        power *= 2;
     }
     best
 }
@@ -92,10 +87,7 @@ fn source_of(comes: &[u32; ENTRIES], conditionrow: usize, conditions: usize, c: 
 fn cut_row(x: u32, lasts: u32, u: u32) -> u32
     ensures { result ≡ cut_one x lasts u }
 {
-    if difference(x, lasts) < u {
-        return x;
-    }
-    0
+    if x.saturating_sub(lasts) < u { x } else { 0 }
 }
 
 // The rows of combination d that were placed before clock u, whatever rows are there before.
@@ -104,11 +96,9 @@ fn cut_rows(index: &Index, all: &[u32; ENTRIES], d: usize, u: u32, rows: &mut Ro
     ensures { rows_of rows.new ≡ with_comes (cut (block all.now d)
         (laid index.now).span u) (rows_of rows.old) }
 {
-    let mut r: usize = 0;
-    while r < ROWS {
+    for r in 0..ROWS {
         let x = cut_row(all[d * ROWS + r], span_of(index, r), u);
         put_comes(rows, r, x);
-        r += 1;
     }
 }
 
@@ -119,12 +109,10 @@ fn last_ends(index: &Index, rows: &Rows, nodes: &mut Nodes)
         (rows_of rows.now).comes (laid index.now).processes) (nodes_of nodes.old) }
 {
     let processes = processes_of(index);
-    let mut i: usize = 0;
-    while i < processes {
+    for i in 0..processes {
         let n = node_of(index, i);
-        let x = greater(busy_of(nodes, n), comes_of(rows, i));
-        put_busy(nodes, n, x);
-        i += 1;
+        let end = busy_of(nodes, n).max(comes_of(rows, i));
+        put_busy(nodes, n, end);
     }
 }
 
@@ -134,10 +122,12 @@ fn place_of_counts(s: Source) -> usize
     requires { (s.from < COMBINATIONS) × (s.condition < CONDITIONS) }
     ensures { result ≡ counts_at s }
 {
+    let first = s.from * COMBINATIONNOTES;
     if s.clock == NEVER {
-        return s.from * COMBINATIONNOTES + NOTED;
+        first + NOTED
+    } else {
+        first + s.condition * NODES
     }
-    s.from * COMBINATIONNOTES + s.condition * NODES
 }
 
 // What combination c takes over: the answer is the clock from which it is planned. The rows, whatever they hold before,

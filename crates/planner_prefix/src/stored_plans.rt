@@ -17,11 +17,8 @@ pub fn add_counts(nodes: &Nodes, slots: usize, totals: &mut [u32; NODES])
         get_or totals.old n 0 + get_or (nodes_of nodes.now).passed n 0 < 4294967296) }
     ensures { totals.new ≡ added (nodes_of nodes.now).passed totals.old slots }
 {
-    let mut n: usize = 0;
-    while n < slots {
-        let before = totals[n];
-        totals[n] = before + passed_of(nodes, n);
-        n += 1;
+    for n in 0..slots {
+        totals[n] += passed_of(nodes, n);
     }
 }
 

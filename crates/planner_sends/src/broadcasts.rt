@@ -9,7 +9,6 @@ ghost use Rattle.log_rows.specs.Rows.{rows_of};
 ghost use Rattle.planner_sends.specs.NextSends.{Timed};
 ghost use Rattle.planner_sends.specs.Pending.{ready_to_broadcast, waits_to_broadcast, Broadcasts};
 
-use arrays::lesser;
 use bitset::{how_many, is_empty, lowest, without_lowest};
 use log_queries::came;
 use log_rows::{Rows, comes_of, put_comes, put_place};
@@ -21,10 +20,7 @@ fn ready_to_broadcast(index: &Index, rows: &Rows, k: usize, u: u32) -> bool
     ensures { result ≡ ready_to_broadcast (laid index.now) (rows_of rows.now) u k }
 {
     let d = decider_of(index, k);
-    if comes_of(rows, conditionrow_of(index) + k) != 0 {
-        return false;
-    }
-    came(comes_of(rows, d), u)
+    comes_of(rows, conditionrow_of(index) + k) == 0 && came(comes_of(rows, d), u)
 }
 
 // The broadcasts of node n that are ready and not sent, as a mask: of the conditions that its processes decide, the
@@ -76,18 +72,16 @@ pub fn take_broadcasts(
         (rows_of rows.new) }
 {
     let n = how_many(mask);
-    let fits = lesser(n, room);
+    let fits = n.min(room);
     let mut m = mask;
-    let mut used: u32 = 0;
-    while used < fits {
+    for used in 0..fits {
         let r = conditionrow + lowest(m) as usize;
         put_comes(rows, r, end);
         put_place(rows, r, used);
-        used += 1;
         m = without_lowest(m);
     }
     Taken {
-        used,
+        used: fits,
         short: room < n,
     }
 }

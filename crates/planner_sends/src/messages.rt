@@ -17,10 +17,7 @@ fn waits(index: &Index, rows: &Rows, e: usize, u: u32) -> bool
     requires { (e < EDGES) × Bounded (laid index.now) }
     ensures { result ≡ waits_to_send (laid index.now) (rows_of rows.now) u e }
 {
-    if comes_of(rows, processes_of(index) + e) != 0 {
-        return false;
-    }
-    message_ready(index, rows, e, u)
+    comes_of(rows, processes_of(index) + e) == 0 && message_ready(index, rows, e, u)
 }
 
 // Stores the messages of queue[a .. b] that are ready and not sent, in the order of the queue, from place a of `wait`
@@ -41,14 +38,12 @@ pub(crate) fn find_waiting(
         (nodes_of nodes.old) }
 {
     let mut k = a;
-    let mut j = a;
-    while j < b {
+    for j in a..b {
         let e = queue_of(index, j);
         if waits(index, rows, e, u) {
             put_wait(nodes, k, e as u32);
             k += 1;
         }
-        j += 1;
     }
     k
 }

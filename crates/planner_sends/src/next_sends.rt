@@ -30,10 +30,7 @@ fn has_pending(index: &Index, rows: &Rows, n: usize, u: u32, nodes: &mut Nodes) 
     let b = queuefirst_of(index, n + 1);
     let z = find_waiting(index, rows, a, b, u, nodes);
     put_waitend(nodes, n, z as u32);
-    if a < z {
-        return true;
-    }
-    has_broadcast(index, rows, n, u)
+    a < z || has_broadcast(index, rows, n, u)
 }
 
 // The beginning of the round that the tick of clock u lies in, where `begun` is the beginning of a round at or before
@@ -55,9 +52,10 @@ fn next_send_from(round: u32, begun: u32, offset: u32, tick: u32, pending: bool)
     ensures { result ≡ next_send_from round offset tick pending }
 {
     if pending {
-        return first_beginning(round, begun, offset, tick) + 1;
+        first_beginning(round, begun, offset, tick) + 1
+    } else {
+        NEVER
     }
-    NEVER
 }
 
 // The clock at which a slot that begins at clock u next takes an item, where it left one: a round later; or `NEVER`
@@ -66,10 +64,7 @@ pub fn next_round(round: u32, u: u32, left: bool) -> u32
     requires { (round ≤ ROUNDTICKS) × (u ≤ LASTCLOCK) }
     ensures { result ≡ next_round round u left }
 {
-    if left {
-        return u + round;
-    }
-    NEVER
+    if left { u + round } else { NEVER }
 }
 
 // Whether the items that a node has pending may change at clock u: a broadcast arrives, or the node's last process
@@ -77,10 +72,7 @@ pub fn next_round(round: u32, u: u32, left: bool) -> u32
 fn may_change(broadcastend: u32, end: u32, u: u32) -> bool
     ensures { result ≡ (eqb broadcastend u || eqb end u) }
 {
-    if broadcastend == u {
-        return true;
-    }
-    end == u
+    broadcastend == u || end == u
 }
 
 // When the slot of node n next takes an item, as seen at clock u: looked up again where a broadcast arrives or the

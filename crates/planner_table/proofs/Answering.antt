@@ -10,7 +10,9 @@ use Rattle.lists.specs.Front.{front}
 use Rattle.model.specs.Plan.{Lines}
 use Rattle.model.specs.Refusals.{nothing, refused, or_else, plan_refusal}
 use Rattle.model.specs.Table.{Answer, turned_down, made, result, entry_words, frame_words, answered, room_refusal, plan_answer, table_after, frames_after, counts_after}
-use Rattle.planner_table.specs.declared.Planned.TheVariants as answer
+use Rattle.std.specs.Prelude.{Ok, Err}
+use Rattle.refusals.specs.declared.Refusal.{Refusal}
+use Rattle.refusals.specs.Numbers.{number_of}
 use Rattle.planner_table.specs.Planner.{answer_of, Answers}
 
 module _ (p : Lines) (words room : ℕ) where
@@ -34,10 +36,10 @@ module _ (p : Lines) (words room : ℕ) where
 
 module _ (p : Lines) (table frames passed : List ℕ) where
   -- A refusal leaves the lent words as they were.
-  pub refused_answers : (n : ℕ) → plan_answer p (length table) (length frames) ≡ turned_down n → {table-now frames-now passed-now : List ℕ} →
-      table-now ≡ table → frames-now ≡ frames → passed-now ≡ passed → Answers p (answer.Refused n) table frames passed table-now frames-now passed-now
+  pub refused_answers : (r : Refusal) → plan_answer p (length table) (length frames) ≡ turned_down (number_of r) → {table-now frames-now passed-now : List ℕ} →
+      table-now ≡ table → frames-now ≡ frames → passed-now ≡ passed → Answers p (Err r) table frames passed table-now frames-now passed-now
   unfolding answer_of table_after frames_after counts_after
-  refused_answers n e t f k =
+  refused_answers r e t f k =
       record {
         answer = sym (ap answer_of e);
         words = t ∙ sym (ap (λ (a : Answer). table_after a table) e);
@@ -49,11 +51,11 @@ module _ (p : Lines) (table frames passed : List ℕ) where
   pub made_answers : plan_answer p (length table) (length frames) ≡ made (result p) → {words room delay : ℕ} → words ≡ length (entry_words (result p).entries) →
       room ≡ length (frame_words (result p).frames) → delay ≡ (result p).delay → {table-now frames-now passed-now : List ℕ} →
       table-now ≡ front (entry_words (result p).entries) table → frames-now ≡ front (frame_words (result p).frames) frames → passed-now ≡ front (result p).passed passed →
-      Answers p (answer.Made (record { words = words; framewords = room; delay = delay })) table frames passed table-now frames-now passed-now
+      Answers p (Ok (record { words = words; framewords = room; delay = delay })) table frames passed table-now frames-now passed-now
   unfolding answer_of table_after frames_after counts_after
   made_answers e a b c t f k =
       record {
-        answer = (λ i. answer.Made (record { words = a i; framewords = b i; delay = c i })) ∙ sym (ap answer_of e);
+        answer = (λ i. Ok (record { words = a i; framewords = b i; delay = c i })) ∙ sym (ap answer_of e);
         words = t ∙ sym (ap (λ (a : Answer). table_after a table) e);
         frame_words = f ∙ sym (ap (λ (a : Answer). frames_after a frames) e);
         counts = k ∙ sym (ap (λ (a : Answer). counts_after a passed) e);

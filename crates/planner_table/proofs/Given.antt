@@ -5,6 +5,7 @@ use mathlib.Core.Path.{◌≡◌, refl, ap, sym, ◌∙◌}
 use mathlib.Core.Bool.{Bool, true, false}
 use mathlib.Core.List.{List}
 use Prim.Native.Nat.{ℕ, ◌≤◌}
+use Rattle.std.specs.Prelude.{Ok, Err}
 use native.Mathlib.Omega.{arith}
 use borrow.Author.Tests.{ltb-false}
 use lib.ListN.{length, take}
@@ -31,7 +32,6 @@ use Rattle.model.specs.Table.{
 use Rattle.laws.proofs.Good.{good}
 use Rattle.laws.proofs.Words.{counts_each}
 use Rattle.planner_table.specs.declared.Made.{Made}
-use Rattle.planner_table.specs.declared.Planned.TheVariants as answer
 use Rattle.planner_table.specs.Planner.{answer_of}
 
 -- an answer that is a result is of a plan that passes refusals 2 to 9, and the lent words suffice
@@ -59,7 +59,7 @@ unfolding plan_answer
 made_suffice p words room r e = suffice (plan_refusal p) (result p) r words room e
 
 -- a refusal in memory is one of the model
-pub turned : (a : Answer) (n : ℕ) → answer.Refused n ≡ answer_of a → a ≡ turned_down n
+pub turned : (a : Answer) (n : ℕ) → Err n ≡ answer_of a → a ≡ turned_down n
 unfolding answer_of
 turned (turned_down m) n e = cc
 turned (made r) n e = absurd (let z : ◌≡◌ {A = ℕ} 0 1 = cc in omega arith)
@@ -72,7 +72,7 @@ pub record WasMade (a : Answer) (m : Made) : Type 0 where
   pub framewords : m.framewords ≡ length (frame_words result.frames)
   pub delay : m.delay ≡ result.delay
 
-pub was_made : (a : Answer) (m : Made) → answer.Made m ≡ answer_of a → WasMade a m
+pub was_made : (a : Answer) (m : Made) → Ok m ≡ answer_of a → WasMade a m
 unfolding answer_of
 was_made (turned_down n) m e = absurd (let z : ◌≡◌ {A = ℕ} 0 1 = cc in omega arith)
 was_made (made r) m e = record { result = r; is_made = refl; words = cc; framewords = cc; delay = cc }
@@ -95,7 +95,7 @@ front_within : (words lent now : List ℕ) → now ≡ front words lent → leng
 front_within words lent now e l = omega (arith, ap length e, front_length words lent l)
 
 module _ (p : Lines) (table frames passed table-now frames-now passed-now : List ℕ) (m : Made) where
-  pub stands : answer.Made m ≡ answer_of (plan_answer p (length table) (length frames)) →
+  pub stands : Ok m ≡ answer_of (plan_answer p (length table) (length frames)) →
       table-now ≡ table_after (plan_answer p (length table) (length frames)) table →
       frames-now ≡ frames_after (plan_answer p (length table) (length frames)) frames →
       passed-now ≡ counts_after (plan_answer p (length table) (length frames)) passed →

@@ -3,6 +3,8 @@
 use mathlib.Core.Path.{◌≡◌, refl, sym, ap, ◌∙◌, subst}
 use mathlib.Core.List.{List}
 use Prim.Native.Nat.{ℕ}
+use Rattle.std.specs.Prelude.{Ok, Err}
+use Rattle.std.specs.Prelude as std
 use lib.ListN.{length, take}
 use Rattle.lists.proofs.Front.{front_written}
 use Rattle.model.specs.Checking.{Sound}
@@ -13,8 +15,6 @@ use Rattle.laws.proofs.OwnTable.{own_table_sound}
 use Rattle.plan.specs.declared.Plan.{Plan}
 use Rattle.plan.specs.Memory.{lines}
 use Rattle.planner_table.specs.declared.Made.{Made}
-use Rattle.planner_table.specs.declared.Planned.{Planned}
-use Rattle.planner_table.specs.declared.Planned.TheVariants as answer
 use Rattle.planner_table.specs.Planner.{answer_of}
 
 abbrev is_made : Answer → Type 0
@@ -48,26 +48,26 @@ planned_sound p table frames r e =
       ap (λ (a : Answer). take (length (entry_words r.entries)) (table_after a table)) e ∙ front_written (entry_words r.entries) table,
     )
 
-abbrev is_given : Planned → Type 0
-is_given (answer.Made m) = Unit {0}
-is_given (answer.Refused n) = ⊥
+abbrev is_given : std.Result Made ℕ → Type 0
+is_given (Ok m) = Unit {0}
+is_given (Err n) = ⊥
 
-abbrev given_or : Made → Planned → Made
-given_or d (answer.Made m) = m
-given_or d (answer.Refused n) = d
+abbrev given_or : Made → std.Result Made ℕ → Made
+given_or d (Ok m) = m
+given_or d (Err n) = d
 
--- The same of what `plan_table` gives back: where its answer is `Made(m)`, the first `m.words` words of the table are
+-- The same of what `plan_table` gives back: where its answer is `Ok(m)`, the first `m.words` words of the table are
 -- sound with the delay `m.delay`.
-pub given_sound : (p : Plan) (table frames : List ℕ) (m : Made) → answer.Made m ≡ answer_of (plan_answer (lines p) (length table) (length frames)) →
+pub given_sound : (p : Plan) (table frames : List ℕ) (m : Made) → Ok m ≡ answer_of (plan_answer (lines p) (length table) (length frames)) →
     Sound (lines p) (take m.words (table_after (plan_answer (lines p) (length table) (length frames)) table)) m.delay
 unfolding answer_of
 given_sound p table frames m = from (plan_answer (lines p) (length table) (length frames)) refl
   where
-    from : (a : Answer) → plan_answer (lines p) (length table) (length frames) ≡ a → answer.Made m ≡ answer_of a →
+    from : (a : Answer) → plan_answer (lines p) (length table) (length frames) ≡ a → Ok m ≡ answer_of a →
         Sound (lines p) (take m.words (table_after (plan_answer (lines p) (length table) (length frames)) table)) m.delay
     from (turned_down n) e q = absurd (subst is_given q tt)
     from (made r) e q =
         let s = planned_sound p table frames r e in
-        let w : m.words ≡ length (entry_words r.entries) = ap (λ (x : Planned). (given_or m x).words) q in
-        let d : m.delay ≡ r.delay = ap (λ (x : Planned). (given_or m x).delay) q in
+        let w : m.words ≡ length (entry_words r.entries) = ap (λ (x : std.Result Made ℕ). (given_or m x).words) q in
+        let d : m.delay ≡ r.delay = ap (λ (x : std.Result Made ℕ). (given_or m x).delay) q in
         rw (w, d, s.1) s.0

@@ -1,6 +1,6 @@
 -- What the planner answers and writes, in the words of the model.
 -- Assumes nothing.
-use Rattle.std.specs.Prelude.{ℕ, ◌+◌, ◌*◌, ◌<◌, ◌≡◌, List, map, length, get_or}
+use Rattle.std.specs.Prelude.{Result, Ok, Err, ℕ, ◌+◌, ◌*◌, ◌<◌, ◌≡◌, List, map, length, get_or}
 use Rattle.std.proofs.Math.Seq.{slice}
 use Rattle.model.specs.Plan.{Lines}
 use Rattle.model.specs.Bus.{rows}
@@ -13,15 +13,16 @@ use Rattle.table_entries.specs.Words.{Laid, table}
 use Rattle.table_frames.specs.Packed.{packed_entry}
 use Rattle.planner_combinations.specs.declared.Totals.{Totals}
 use Rattle.planner_combinations.specs.Combinations.{PlannedAll}
-use Rattle.planner_table.specs.declared.Planned.{Planned}
-use Rattle.planner_table.specs.declared.Planned.TheVariants as answer
+use Rattle.refusals.specs.declared.Refusal.{Refusal}
+use Rattle.refusals.specs.Numbers.{numbered}
+use Rattle.planner_table.specs.declared.Made.{Made}
 
 -- The answer in memory: a refusal's number, or how many words of the table and of the frame list are written, and the
 -- worst delay.
-unfoldable pub answer_of : Answer → Planned
-answer_of (turned_down n) = answer.Refused n
+unfoldable pub answer_of : Answer → Result Made ℕ
+answer_of (turned_down n) = Err n
 answer_of (made r) =
-    answer.Made (record { words = length (entry_words r.entries); framewords = length (frame_words r.frames); delay = r.delay })
+    Ok (record { words = length (entry_words r.entries); framewords = length (frame_words r.frames); delay = r.delay })
 
 -- a plan index of some plan in which refusals 2 to 9 find nothing, whose logs the arrays hold
 pub record SomeLogs (b : PlanIndex) (comes place since : List ℕ) : Type 0 where
@@ -47,8 +48,8 @@ pub record Entered (p : Lines) (list ends : List ℕ) (count : ℕ) : Type 0 whe
 
 -- The planner's answer, and what the words lent for the table, the frame list and the counts of the nodes hold after
 -- it.
-pub record Answers (p : Lines) (r : Planned) (table frames passed table-now frames-now passed-now : List ℕ) : Type 0 where
-  pub answer : r ≡ answer_of (plan_answer p (length table) (length frames))
+pub record Answers (p : Lines) (r : Result Made Refusal) (table frames passed table-now frames-now passed-now : List ℕ) : Type 0 where
+  pub answer : numbered r ≡ answer_of (plan_answer p (length table) (length frames))
   pub words : table-now ≡ table_after (plan_answer p (length table) (length frames)) table
   pub frame_words : frames-now ≡ frames_after (plan_answer p (length table) (length frames)) frames
   pub counts : passed-now ≡ counts_after (plan_answer p (length table) (length frames)) passed

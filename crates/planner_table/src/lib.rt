@@ -4,7 +4,7 @@
 // Document 01: "every lent buffer keeps its contents; an accepted call leaves words beyond its output unchanged"
 #![tactic(auto)]
 
-ghost use Rattle.std.specs.Prelude.{◌≡◌, map, ◌≤◌, get_or, length, replicate};
+ghost use Rattle.std.specs.Prelude.{◌≡◌, map, ◌≤◌, get_or, length};
 ghost use Rattle.limits.specs.Limits.{NODES, COMBINATIONS, ROWENDS, ENTRIES};
 ghost use Rattle.lists.specs.Front.{front};
 ghost use Rattle.lists.specs.Lists.{below};
@@ -18,12 +18,12 @@ ghost use Rattle.table_entries.specs.Logs.{Logs};
 ghost use Rattle.planner_combinations.specs.Combinations.{PlannedAll};
 ghost use Rattle.planner_table.specs.Planner.{SomeLogs, SomePlans, Entered, Answers};
 
-use arrays::copy_part;
 use limits::{COMBINATIONS, ENTRIES, NODES, ROWENDS};
 use plan::Plan;
 use plan_index::{Index, conditions_of, rows_of, slots_of};
 use plan_layout::of_plan;
 use planner_combinations::{Totals, how_many, plan_combinations};
+use refusals::Refusal;
 use table_entries::all_entries;
 use table_frames::{collect, write_both};
 
@@ -34,25 +34,6 @@ pub struct Made {
     pub words: usize,
     pub framewords: usize,
     pub delay: u32,
-}
-
-// The planner's answer: what it made, or the number of the refusal.
-#[derive(Clone, Copy)]
-pub enum Planned {
-    Made(Made),
-    Refused(u32),
-}
-
-fn no_places() -> [u32; ROWENDS]
-    ensures { result ≡ replicate ROWENDS 0 }
-{
-    [0u32; ROWENDS]
-}
-
-fn no_clocks() -> [u32; COMBINATIONS]
-    ensures { result ≡ replicate COMBINATIONS 0 }
-{
-    [0u32; COMBINATIONS]
 }
 
 // The entries of the table as numbers in `list`, row r's from place ends[r] up to place ends[r + 1]. How many there are
@@ -82,8 +63,7 @@ fn store_counts(t: Totals, slots: usize, passed: &mut [u32; NODES])
     ensures { passed.new ≡ front (map (λ n. get_or t.passed n 0) (below slots))
         passed.old }
 {
-    let counts = t.passed;
-    copy_part(&counts, 0, slots, passed);
+    passed[..slots].copy_from_slice(&t.passed[..slots]);
 }
 
 // Lists the entries and the frames of the table, and writes both, and the counts of the nodes, where the lent words
@@ -98,7 +78,7 @@ fn write_all(
     table: &mut [u32],
     frames: &mut [u32],
     passed: &mut [u32; NODES],
-) -> Planned
+) -> Result<Made, Refusal>
     requires { SomePlans (laid index.now) t comes.now place.now since.now }
     ensures { (p : Lines) → plan_refusal p ≡ nothing → Indexed p (laid index.now) →
         PlannedAll p (laid index.now).span t comes.now place.now
@@ -107,22 +87,22 @@ fn write_all(
 {
     let rows = rows_of(index);
     let mut list = [1u64; ENTRIES];
-    let mut ends = no_places();
+    let mut ends = [0u32; ROWENDS];
     let count = list_entries(index, comes, place, since, &mut list, &mut ends);
     if table.len() < 5 * count {
-        return Planned::Refused(10);
+        return Err(Refusal::LentRoom);
     }
     let mut out = [1u64; ENTRIES];
     let used = collect(index, &list, &ends, &mut out);
     if write_both(&list, &ends, rows, &out, used, table, frames) {
         store_counts(t, slots_of(index), passed);
-        return Planned::Made(Made {
+        return Ok(Made {
             words: 5 * count,
             framewords: 3 * used,
             delay: t.delay,
         });
     }
-    Planned::Refused(11)
+    Err(Refusal::FrameRoom)
 }
 
 // Plans a plan in which refusals 2 to 9 find nothing: the table, the frame list, and the pass-over count of each node,
@@ -133,7 +113,7 @@ pub fn plan_accepted(
     table: &mut [u32],
     frames: &mut [u32],
     passed: &mut [u32; NODES],
-) -> Planned
+) -> Result<Made, Refusal>
     requires { plan_refusal (lines p) ≡ nothing }
     ensures { Answers (lines p) result table.old frames.old passed.old
         table.new frames.new passed.new }
@@ -141,7 +121,7 @@ pub fn plan_accepted(
     let index = of_plan(p);
     let mut comes = [1u32; ENTRIES];
     let mut place = [1u32; ENTRIES];
-    let mut since = no_clocks();
+    let mut since = [0u32; COMBINATIONS];
     let t = plan_combinations(&index, &mut comes, &mut place, &mut since);
     write_all(&index, t, &comes, &place, &since, table, frames, passed)
 }
@@ -155,7 +135,7 @@ pub fn count_pass_overs(p: Plan, passed: &mut [u32; NODES])
     let index = of_plan(p);
     let mut comes = [1u32; ENTRIES];
     let mut place = [1u32; ENTRIES];
-    let mut since = no_clocks();
+    let mut since = [0u32; COMBINATIONS];
     let t = plan_combinations(&index, &mut comes, &mut place, &mut since);
     store_counts(t, slots_of(&index), passed);
 }

@@ -10,23 +10,23 @@ use borrow.Author.Tests.{lt-ltb, le-ltb, ltb-false}
 use lib.Dec.{ltb}
 use lib.ListN.{length, take}
 use lib.Seq.{take_all}
+use Rattle.std.specs.Prelude.{Result, Err}
 use Rattle.limits.specs.Limits.{NODES}
 use Rattle.model.specs.Plan.{Lines}
 use Rattle.model.specs.Refusals.{Refusal, nothing, sentence, or_else, plan_refusal}
-use Rattle.model.specs.Table.{Answer, turned_down, made, Result, result, entry_words, frame_words, entries_of, frames_of, answered, room_refusal, plan_answer}
+use Rattle.model.specs.Table as model
+use Rattle.model.specs.Table.{Answer, turned_down, made, result, entry_words, frame_words, entries_of, frames_of, answered, room_refusal, plan_answer}
 use Rattle.model.specs.Text.{Written, not_written, unless_refused, fitting, bytes_after}
 use Rattle.model.specs.Listing.{listing, words_listing, printed, plan_listing, listing_refusal, list_plan}
 use Rattle.laws.proofs.Words.{printed_words}
 use Rattle.plan.specs.declared.Plan.{Plan}
 use Rattle.plan.specs.Memory.{lines}
 use Rattle.planner_table.specs.declared.Made.{Made}
-use Rattle.planner_table.specs.declared.Planned.TheVariants as answer
 use Rattle.planner_table.specs.Planner.{answer_of as planned_of}
 use Rattle.planner_table.proofs.Given.{made_suffice, turned, Stands}
 use Rattle.listing_count.specs.Parts.{listing_of}
-use Rattle.listing.specs.declared.writer.Listed.{Listed}
-use Rattle.listing.specs.declared.writer.Listed.TheVariants.{Refused}
-use Rattle.listing.specs.Answer.{written_of, answer_of}
+use Rattle.text_lines.specs.Answer.{answer_of}
+use Rattle.listing.specs.Answer.{written_of}
 use Rattle.listing.proofs.Written.{plan_listing as of-counts}
 use Rattle.program.specs.Listing.{listed_in}
 use Rattle.program.proofs.Room.{frame_words_few}
@@ -40,7 +40,7 @@ many_frames lent framewords bytes false h e = rw (e, lt-ltb 6000 framewords h) r
 
 pub many_refused : (p : Plan) (delay : ℕ) (passed table frames : List ℕ) (nodes lent : ℕ) (b : Bool) → 6000 < length frames → length passed ≡ NODES → nodes ≡ min p.slots NODES →
     b ≡ ltb lent (length (listing_of p.processes p.edges p.conditions delay (take nodes passed) table frames)) →
-    Refused (elim b [ true ↦ 10 | false ↦ 11 ]) ≡ answer_of (listed_in lent (length frames) (words_listing (lines p) delay passed table frames))
+    Err (elim b [ true ↦ 10 | false ↦ 11 ]) ≡ answer_of (listed_in lent (length frames) (words_listing (lines p) delay passed table frames))
 many_refused p delay passed table frames nodes lent b h eight few e =
     let bytes : List ℕ = words_listing (lines p) delay passed table frames in
     let q : ltb lent (length bytes) ≡ b = ap (λ (z : List ℕ). ltb lent (length z)) (of-counts p delay passed table frames nodes eight few) ∙ sym e in
@@ -56,11 +56,11 @@ unfolding listed_in written_of fitting
 few_frames lent framewords bytes h = rw (le-ltb 6000 framewords h) refl
 
 -- two equal answers are given, and leave the lent bytes, alike
-pub listed_so : (lent : List ℕ) {one two : Written} {now : List ℕ} {l : Listed} → one ≡ two → l ≡ answer_of one → now ≡ bytes_after one lent →
+pub listed_so : (lent : List ℕ) {one two : Written} {now : List ℕ} {l : Result ℕ ℕ} → one ≡ two → l ≡ answer_of one → now ≡ bytes_after one lent →
     (l ≡ answer_of two) × (now ≡ bytes_after two lent)
 listed_so lent e a b = (a ∙ ap answer_of e, b ∙ ap (λ (w : Written). bytes_after w lent) e)
 
-pub few_listed : (lent now bytes : List ℕ) (framewords : ℕ) (l : Listed) → framewords ≤ 6000 → l ≡ answer_of (written_of (length lent) bytes) →
+pub few_listed : (lent now bytes : List ℕ) (framewords : ℕ) (l : Result ℕ ℕ) → framewords ≤ 6000 → l ≡ answer_of (written_of (length lent) bytes) →
     now ≡ bytes_after (written_of (length lent) bytes) lent →
     (l ≡ answer_of (listed_in (length lent) framewords bytes)) × (now ≡ bytes_after (listed_in (length lent) framewords bytes) lent)
 few_listed lent now bytes framewords l h a b = listed_so lent (few_frames (length lent) framewords bytes h) a b
@@ -91,7 +91,7 @@ module _ (p : Lines) (fine : plan_refusal p ≡ nothing) (lent : ℕ) where
           absurd (let z : ◌≡◌ {A = ℕ} 0 1 = cc in omega arith)
 
   -- what it makes is listed
-  pub made_listing : (r : Result) → plan_answer p 15000 9000 ≡ made r → list_plan p lent ≡ listed_in lent (length (frame_words (result p).frames)) (plan_listing p)
+  pub made_listing : (r : model.Result) → plan_answer p 15000 9000 ≡ made r → list_plan p lent ≡ listed_in lent (length (frame_words (result p).frames)) (plan_listing p)
   unfolding list_plan listing_refusal listed_in or_else
   made_listing r e = rw (fine, le-ltb 15000 (length (entry_words (result p).entries)) (made_suffice p 15000 9000 r e).enough) refl
 
@@ -101,18 +101,18 @@ module _ (p : Lines) (fine : plan_refusal p ≡ nothing) (lent : ℕ) where
   unfolding plan_listing
   words_listed {m} {frames-now = frames-now} {passed-now} s =
       let w = s.was in
-      let r : Result = w.result in
+      let r : model.Result = w.result in
       let k = (made_suffice p 15000 9000 r w.is_made).same in
       (λ i. listed_in lent (length (s.frames_words i)) (words_listing p (w.delay i) passed-now (s.table_words i) (s.frames_words i)))
       ∙ ap (listed_in lent (length (frame_words r.frames)))
       (counts_listed p r.delay passed-now r.passed (entry_words r.entries) (frame_words r.frames) s.counts_words s.counts_many ∙ sym (printed_words p r s.counts_many))
-      ∙ ap (λ (r : Result). listed_in lent (length (frame_words r.frames)) (printed p (made r))) k
+      ∙ ap (λ (r : model.Result). listed_in lent (length (frame_words r.frames)) (printed p (made r))) k
       ∙ sym (made_listing r w.is_made)
 
 -- the same over the words that were lent
 module _ (p : Lines) (fine : plan_refusal p ≡ nothing) (words room : ℕ) (w : words ≡ 15000) (f : room ≡ 9000) where
-  pub refused_words : (n : ℕ) (out : List ℕ) → answer.Refused n ≡ planned_of (plan_answer p words room) →
-      (Refused n ≡ answer_of (list_plan p (length out))) × (out ≡ bytes_after (list_plan p (length out)) out)
+  pub refused_words : (n : ℕ) (out : List ℕ) → Err n ≡ planned_of (plan_answer p words room) →
+      (Err n ≡ answer_of (list_plan p (length out))) × (out ≡ bytes_after (list_plan p (length out)) out)
   unfolding bytes_after
   refused_words n out e =
       let q : list_plan p (length out) ≡ not_written n = refused_listing p fine (length out) n ((λ i. plan_answer p (sym w i) (sym f i)) ∙ turned (plan_answer p words room) n e) in

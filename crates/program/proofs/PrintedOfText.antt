@@ -9,6 +9,7 @@ use native.Mathlib.Omega.{arith}
 use borrow.Author.Tests.{le-ltb, ltb-false}
 use lib.Dec.{ltb}
 use lib.ListN.{length, drop, length-append}
+use Rattle.std.specs.Prelude.{Result, Ok, Err}
 use Rattle.limits.specs.Limits.{LISTING}
 use Rattle.lists.specs.Front.{front}
 use Rattle.model.specs.Plan.{Lines}
@@ -19,9 +20,11 @@ use Rattle.model.specs.Listing.{refused_line, printed, program_prints, plan_list
 use Rattle.text_grammar.proofs.Numbers.{decimal_length}
 use Rattle.listing_count.proofs.Lines.{refused_length}
 use Rattle.plan_refusals.proofs.Accepted.{of_read}
-use Rattle.listing.specs.declared.writer.Listed.{Listed}
-use Rattle.listing.specs.declared.writer.Listed.TheVariants.{Wrote, Refused}
-use Rattle.listing.specs.Answer.{written_of, answer_of}
+use Rattle.refusals.specs.declared.Refusal.{Refusal}
+use Rattle.refusals.specs.Numbers.{number_of, numbered}
+use Rattle.refusals.proofs.Numbered.{is_ok}
+use Rattle.text_lines.specs.Answer.{answer_of}
+use Rattle.listing.specs.Answer.{written_of}
 use Rattle.listing.proofs.Written.{lent_enough}
 use Rattle.program.specs.Listing.{ListsPlan}
 use Rattle.program.specs.Printing.{Prints}
@@ -54,35 +57,31 @@ module _ (lent : ℕ) (enough : LISTING ≤ lent) where
   text_prints text (not_read n) a = refl
   text_prints text (reads p) a = plan_prints p (of_read text (reads p) p a refl).0
 
-wrote_number : (w : Written) (n : ℕ) → Wrote n ≡ answer_of w → (bytes : List ℕ) × (w ≡ wrote bytes) × (n ≡ length bytes)
+wrote_number : (w : Written) (n : ℕ) → Ok n ≡ answer_of w → (bytes : List ℕ) × (w ≡ wrote bytes) × (n ≡ length bytes)
 wrote_number (wrote bytes) n e = (bytes, refl, cc)
-wrote_number (not_written m) n e = absurd (let z : ◌≡◌ {A = ℕ} 0 1 = cc in omega arith)
+wrote_number (not_written m) n e = cc
 
-refused_number : (w : Written) (n : ℕ) → Refused n ≡ answer_of w → w ≡ not_written n
-refused_number (wrote bytes) n e = absurd (let z : ◌≡◌ {A = ℕ} 0 1 = cc in omega arith)
+refused_number : (w : Written) (n : ℕ) → Err n ≡ answer_of w → w ≡ not_written n
+refused_number (wrote bytes) n e = cc
 refused_number (not_written m) n e = cc
 
 -- the line of a refusal is written where as many bytes are lent
-module _ (n : ℕ) (before after : List ℕ) (r : Listed) (small : n < 4294967296) (enough : LISTING ≤ length before)
-    (a : r ≡ answer_of (written_of (length before) (refused_line n))) (b : after ≡ bytes_after (written_of (length before) (refused_line n)) before) where
+module _ (n : ℕ) (before after : List ℕ) (r : Result ℕ Refusal) (small : n < 4294967296) (enough : LISTING ≤ length before)
+    (a : numbered r ≡ answer_of (written_of (length before) (refused_line n))) (b : after ≡ bytes_after (written_of (length before) (refused_line n)) before) where
   line_written : written_of (length before) (refused_line n) ≡ wrote (refused_line n)
   line_written = lent_enough (length before) (refused_line n) (omega (arith, refused_length n, decimal_length 9 n (omega arith)))
 
-  pub line_printed : (count : ℕ) → r ≡ Wrote count → (count ≡ length (refused_line n)) × (after ≡ front (refused_line n) before)
+  pub line_printed : (r ≡ Ok (length (refused_line n))) × (after ≡ front (refused_line n) before)
   unfolding bytes_after
-  line_printed count e =
-      let w : r ≡ Wrote (length (refused_line n)) = a ∙ ap answer_of line_written in
-      (cc, b ∙ ap (λ (z : Written). bytes_after z before) line_written)
+  line_printed =
+      (is_ok r (length (refused_line n)) (a ∙ ap answer_of line_written), b ∙ ap (λ (z : Written). bytes_after z before) line_written)
 
-  pub line_fits : (k : ℕ) → r ≡ Refused k → ⊥
-  line_fits k e = let w : r ≡ Wrote (length (refused_line n)) = a ∙ ap answer_of line_written in let z : ◌≡◌ {A = ℕ} 0 1 = cc in omega arith
-
-module _ (text before after : List ℕ) (r : Listed) (q : ListsPlan text before after r) (enough : LISTING ≤ length before) where
+module _ (text before after : List ℕ) (enough : LISTING ≤ length before) where
   -- the listing, where it was written
-  pub listing_printed : (n : ℕ) → r ≡ Wrote n → Prints text before after n
+  pub listing_printed : (n : ℕ) → ListsPlan text before after (Ok n) → Prints text before after n
   unfolding bytes_after
-  listing_printed n e =
-      let w = wrote_number (list_reading q.reading (length before)) n (sym e ∙ q.answer) in
+  listing_printed n q =
+      let w = wrote_number (list_reading q.reading (length before)) n q.answer in
       let s : program_prints q.reading ≡ w.0 = subst (λ (z : Written). PrintedFor z (program_prints q.reading)) w.1 (text_prints (length before) enough text q.reading q.of_text) in
       record {
         reading = q.reading;
@@ -92,10 +91,11 @@ module _ (text before after : List ℕ) (r : Listed) (q : ListsPlan text before 
       }
 
   -- the line of the refusal, where it was refused
-  pub refusal_printed : (n count : ℕ) (now : List ℕ) → r ≡ Refused n → count ≡ length (refused_line n) → now ≡ front (refused_line n) after → Prints text before now count
+  pub refusal_printed : (k : Refusal) (count : ℕ) (now : List ℕ) → ListsPlan text before after (Err k) → count ≡ length (refused_line (number_of k)) → now ≡ front (refused_line (number_of k)) after → Prints text before now count
   unfolding bytes_after
-  refusal_printed n count now e c b =
-      let w = refused_number (list_reading q.reading (length before)) n (sym e ∙ q.answer) in
+  refusal_printed k count now q c b =
+      let n = number_of k in
+      let w = refused_number (list_reading q.reading (length before)) n q.answer in
       let s : program_prints q.reading ≡ refused_line n = subst (λ (z : Written). PrintedFor z (program_prints q.reading)) w (text_prints (length before) enough text q.reading q.of_text) in
       let same : after ≡ before = q.bytes ∙ ap (λ (z : Written). bytes_after z before) w in
       record {

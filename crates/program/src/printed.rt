@@ -6,18 +6,14 @@ ghost use Rattle.program.specs.Printing.{Prints};
 
 use crate::listed::list_plan;
 use limits::LISTING;
-use listing::{Listed, write_refusal};
+use listing::write_refusal;
 
 // Writes the line of a refusal to the front of the lent bytes: how many bytes were written.
 fn print_refusal(number: u32, out: &mut [u8; LISTING]) -> usize
     ensures count { result ≡ length (refused_line number) }
     ensures bytes { out.new ≡ front (refused_line number) out.old }
 {
-    let listed = write_refusal(number, out);
-    match listed {
-        Listed::Wrote(n) => n,
-        Listed::Refused(n) => 0,
-    }
+    write_refusal(number, out).unwrap_or(0)
 }
 
 // Writes what the planning program prints for a text of any bytes to the front of the lent bytes, which always suffice:
@@ -25,9 +21,8 @@ fn print_refusal(number: u32, out: &mut [u8; LISTING]) -> usize
 pub fn print_all(text: &[u8], out: &mut [u8; LISTING]) -> usize
     ensures { Prints text.now out.old out.new result }
 {
-    let listed = list_plan(text, out);
-    match listed {
-        Listed::Wrote(n) => n,
-        Listed::Refused(n) => print_refusal(n, out),
+    match list_plan(text, out) {
+        Ok(count) => count,
+        Err(refusal) => print_refusal(refusal.number(), out),
     }
 }

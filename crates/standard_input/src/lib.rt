@@ -1,45 +1,23 @@
 // Standard input, read into lent bytes until it ends or they are full.
 // Document 01: "the planning program, reading standard input"
+// Which bytes were read, and whether a read failed, no contract can say: that is the system's `read`.
 #![tactic(auto)]
 
-ghost use Rattle.std.specs.Prelude.{length};
-ghost use Rattle.standard_input.specs.Lent.{LiesWithin};
+ghost use Rattle.std.specs.Prelude.{◌≤◌, IfOk, length};
 
-use std::io::{Read, Stdin};
+use std::io::{Read, Result, Stdin};
 
-// What was read from standard input: so many bytes, or that a read failed.
-#[derive(Clone, Copy)]
-pub enum Input {
-    Bytes(usize),
-    Failed,
-}
-
-// Reads once: no bytes at the end of the input.
-fn read_once(stdin: &mut Stdin, out: &mut [u8]) -> Input
-    ensures { LiesWithin result (length out.new) }
-{
-    match stdin.read(out) {
-        Ok(n) => Input::Bytes(n),
-        Err(_) => Input::Failed,
-    }
-}
-
-// Reads until the input ends, or the lent bytes are full.
-pub fn read_all(stdin: &mut Stdin, out: &mut [u8]) -> Input
-    ensures { LiesWithin result (length out.new) }
+// Reads until the input ends, or the lent bytes are full: how many bytes were read, or the error of a read that failed.
+pub fn read_all(stdin: &mut Stdin, out: &mut [u8]) -> Result<usize>
+    ensures { IfOk result (λ n. n ≤ length out.new) }
 {
     let mut done: usize = 0;
     while done < out.len() {
-        let input = read_once(stdin, &mut out[done..]);
-        match input {
-            Input::Failed => return Input::Failed,
-            Input::Bytes(n) => {
-                if n == 0 {
-                    return Input::Bytes(done);
-                }
-                done += n;
-            }
+        let n = stdin.read(&mut out[done..])?;
+        if n == 0 {
+            break;
         }
+        done += n;
     }
-    Input::Bytes(done)
+    Ok(done)
 }

@@ -28,10 +28,8 @@ fn write_row(list: &[u64; ENTRIES], a: usize, b: usize, row: u32, words: &mut [u
     ensures { words.new ≡ sets words.old (5 * a)
         (each (five row) (slice a b list.now)) }
 {
-    let mut i = a;
-    while i < b {
+    for i in a..b {
         write_entry(words, 5 * i, row, list[i]);
-        i += 1;
     }
 }
 
@@ -40,8 +38,7 @@ pub fn write(list: &[u64; ENTRIES], ends: &[u32; ROWENDS], rows: usize, words: &
     requires { (rows ≤ ROWS) × Laid list.now ends.now rows × (5 * get_or ends.now rows 0 ≤ length words.old) }
     ensures { words.new ≡ front (table list.now ends.now rows) words.old }
 {
-    let mut r: usize = 0;
-    while r < rows {
+    for r in 0..rows {
         write_row(
             list,
             ends[r] as usize,
@@ -49,6 +46,5 @@ pub fn write(list: &[u64; ENTRIES], ends: &[u32; ROWENDS], rows: usize, words: &
             r as u32,
             words,
         );
-        r += 1;
     }
 }

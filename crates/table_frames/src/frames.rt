@@ -9,7 +9,7 @@ ghost use Rattle.plan_index.specs.Index.{laid, Bounded};
 ghost use Rattle.table_entries.specs.Among.{multiple, Added};
 ghost use Rattle.table_frames.specs.Packed.{entry_frame, Collected, Rows, frames_of, packed_words};
 
-use arrays::{greater_u64, long, wide};
+use arrays::wide;
 use limits::{ENTRIES, ROWENDS};
 use plan_index::{Index, processes_of, rows_of, sender_of, size_of};
 use table_entries::put;
@@ -25,7 +25,7 @@ fn word(x: u64) -> u32
 fn frame(x: u64, node: u32, bytes: u32) -> u64
     ensures { (result ≡ entry_frame node bytes x) × (result < 2 ^ 57) }
 {
-    x / 262144 * 1024 + long(node) * 128 + (x % 64 + long(bytes))
+    x / 262144 * 1024 + u64::from(node) * 128 + (x % 64 + u64::from(bytes))
 }
 
 // Puts a frame among the first n frames of `out`.
@@ -58,16 +58,14 @@ fn collect_row(
     }
     let mut m = n;
     let mut y = frame(list[from], node, bytes);
-    let mut i = from + 1;
-    while i < to {
+    for i in from + 1..to {
         let x = frame(list[i], node, bytes);
         if x / 1024 == y / 1024 {
-            y = greater_u64(x, y);
+            y = x.max(y);
         } else {
             m = add(y, out, m);
             y = x;
         }
-        i += 1;
     }
     add(y, out, m)
 }
@@ -88,13 +86,11 @@ pub fn collect(
 {
     let rows = rows_of(index);
     let mut n: usize = 0;
-    let mut q = processes_of(index);
-    while q < rows {
+    for q in processes_of(index)..rows {
         let from = wide(ends[q]);
         let to = wide(ends[q + 1]);
         let node = sender_of(index, q) as u32;
         n = collect_row(list, from, to, node, size_of(index, q), out, n);
-        q += 1;
     }
     n
 }
@@ -105,14 +101,11 @@ pub(crate) fn write(list: &[u64; ENTRIES], n: usize, words: &mut [u32])
         × ((i : ℕ) → i < n → get_or list.now i 0 < 4398046511104) }
     ensures { words.new ≡ front (packed_words (take n list.now)) words.old }
 {
-    let mut i: usize = 0;
-    let mut k: usize = 0;
-    while i < n {
+    for i in 0..n {
         let y = list[i];
+        let k = 3 * i;
         words[k] = word(y / 1024);
         words[k + 1] = word(y % 1024 / 128);
         words[k + 2] = word(y % 128);
-        k += 3;
-        i += 1;
     }
 }

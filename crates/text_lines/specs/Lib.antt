@@ -1,3 +1,4 @@
+pub mod Answer
 pub mod Label
 pub mod Line
 pub mod Put

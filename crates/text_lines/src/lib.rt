@@ -24,10 +24,8 @@ pub fn put_word(out: &mut [u8], at: usize, word: &[u8]) -> usize
     ensures { Put out.old out.new at result word.now }
 {
     let mut end = at;
-    let mut i: usize = 0;
-    while i < word.len() {
-        end = put_byte(out, end, word[i]);
-        i += 1;
+    for &b in word {
+        end = put_byte(out, end, b);
     }
     end
 }
@@ -53,6 +51,7 @@ fn put_number(out: &mut [u8], at: usize, n: u32) -> usize
 }
 
 // Puts a label and the number after it.
+// The new form is no plainer: that of `listing_bytes` needs room for them, and this one counts what has none.
 pub fn put_labelled(out: &mut [u8], at: usize, label: &[u8], n: u32) -> usize
     requires { Counts at (label.now ++ decimal n) }
     ensures { Put out.old out.new at result (label.now ++ decimal n) }

@@ -65,11 +65,12 @@ module _ {input : List ℕ} {before i : ℕ} (s : Sofar input before i) (l : i <
             ∙ ap (λ (x : Bool). if x then drop (i + 1) input else after_empty (eqb b 10) (drop (i + 1) input)) e);
       }
 
-pub ended : {input : List ℕ} {before i : ℕ} → Sofar input before i → length input ≤ i → Parted input i
+pub ended : {input : List ℕ} {before i : ℕ} → Sofar input before i → length input ≤ i → Parted input (length input)
 unfolding before_empty after_empty
 ended {input} {before} {i} s l =
     let none : drop i input ≡ [] = drop_of_length-le input {i = i} l in
-    record {
+    let end : i ≡ length input = omega (arith, s.within) in
+    rw (← end) (record {
       within = s.within;
       first =
           sym (s.first
@@ -78,4 +79,4 @@ ended {input} {before} {i} s l =
       second =
           drop_of_length-le input {i = i + 1} (omega arith)
           ∙ sym (s.second ∙ ap (λ (r : List ℕ). after_empty (eqb before 10) r) none);
-    }
+    })

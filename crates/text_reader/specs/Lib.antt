@@ -1,3 +1,4 @@
 pub mod Run
 pub mod Answer
 pub mod Parts
+pub mod Chain

@@ -7,4 +7,4 @@ mod parts;
 mod reader;
 
 pub use parts::plan_length;
-pub use reader::{Read, read_plan};
+pub use reader::read_plan;

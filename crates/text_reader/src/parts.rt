@@ -7,10 +7,7 @@ ghost use Rattle.text_reader.specs.Parts.{Parted};
 fn is_empty_line(before: u8, b: u8) -> bool
     ensures { result ≡ (eqb b 10 && eqb before 10) }
 {
-    if b == b'\n' {
-        return before == b'\n';
-    }
-    false
+    b == b'\n' && before == b'\n'
 }
 
 // How many bytes stand before the first empty line; without an empty line, all of them.
@@ -18,14 +15,11 @@ pub fn plan_length(input: &[u8]) -> usize
     ensures { Parted input.now result }
 {
     let mut before: u8 = b'\n';
-    let mut i: usize = 0;
-    while i < input.len() {
-        let b = input[i];
+    for (i, &b) in input.iter().enumerate() {
         if is_empty_line(before, b) {
             return i;
         }
         before = b;
-        i += 1;
     }
-    i
+    input.len()
 }

@@ -1,4 +1,2 @@
--- Laws that the functions' proofs cite: WordSteps (one turn of the loops over bytes), AnswerCases (what an answer
--- says).
+-- Laws that the functions' proofs cite: WordSteps (a word in front of a text, and one turn of the loop over digits).
 pub mod WordSteps
-pub mod AnswerCases

@@ -1,9 +1,11 @@
--- What the grammar reads in one turn of the loops over a word and over digits.
+-- What the grammar reads of a word, and in one turn of the loop over digits.
 -- Assumes nothing.
-use Rattle.std.specs.Prelude.{if◌then◌else◌}
+use Rattle.std.specs.List.{starts_with}
+use Rattle.std.specs.Char.{is_ascii_digit}
+use Rattle.std.proofs.lemmas.Bool.Decides.{nat_tests}
 use Prim.Native.Nat.{ℕ, ◌+◌, ◌-◌, ◌*◌, ◌≤◌, ◌<◌}
 use mathlib.Core.Path.{◌≡◌, refl}
-use mathlib.Core.Bool.{Bool, true, false}
+use mathlib.Core.Bool.{true, false}
 use mathlib.Core.List.{List, [], ◌∷◌}
 use native.Mathlib.Omega.{arith}
 use native.Mathlib.Numerals.{add-one}
@@ -13,29 +15,18 @@ use lib.ListN.{length, drop, get_or, drop_of_length-le}
 use lib.Seq.{drop-cons}
 use Rattle.text_grammar.specs.Parse.{none, got, word_at, digit, goes_on, digits_to, number_to}
 
--- a word longer than the rest of the text; its byte i against byte j of the text; its end
-pub word_short : (w s : List ℕ) → length s < length w → word_at w s ≡ none
+-- a word in front of a text, and a word that is not
+pub word_in_front : (w s : List ℕ) → starts_with eqb s w ≡ true → word_at w s ≡ got tt (drop (length w) s)
 unfolding word_at
-word_short [] s h = absurd (omega arith)
-word_short (c ∷ w) [] h = refl
-word_short (c ∷ w) (b ∷ s) h = at (eqb b c) (word_short w s (omega arith))
-  where
-    at : (x : Bool) → word_at w s ≡ none → (if x then word_at w s else none) ≡ none
-    at true e = e
-    at false e = refl
+word_in_front [] s h = refl
+word_in_front (c ∷ w) [] h = cc
+word_in_front (c ∷ w) (b ∷ s) h = grind (arith, nat_tests, word_in_front w s)
 
-module _ (t w : List ℕ) (j i : ℕ) (ht : j < length t) (hw : i < length w) where
-  pub word_next : get_or t j 0 ≡ get_or w i 0 → word_at (drop i w) (drop j t) ≡ word_at (drop (i + 1) w) (drop (j + 1) t)
-  unfolding word_at
-  word_next e = rw (add-one i, add-one j, drop-cons t j 0 ht, drop-cons w i 0 hw, e, eq-eqb (get_or w i 0) (get_or w i 0) refl)
-
-  pub word_off : (get_or t j 0 ≡ get_or w i 0 → ⊥) → word_at (drop i w) (drop j t) ≡ none
-  unfolding word_at
-  word_off e = rw (drop-cons t j 0 ht, drop-cons w i 0 hw, ne_eqb (get_or t j 0) (get_or w i 0) e)
-
-pub word_all : (t w : List ℕ) (i : ℕ) → length w ≤ i → word_at (drop i w) t ≡ got tt t
+pub word_not_in_front : (w s : List ℕ) → starts_with eqb s w ≡ false → word_at w s ≡ none
 unfolding word_at
-word_all t w i h = rw (drop_of_length-le w {i = i} h)
+word_not_in_front [] s h = cc
+word_not_in_front (c ∷ w) [] h = refl
+word_not_in_front (c ∷ w) (b ∷ s) h = grind (arith, nat_tests, word_not_in_front w s)
 
 -- the end of the text; its byte j as the one behind the number, as a further digit, and as none
 pub digits_end : (end : ℕ) (t : List ℕ) (n j : ℕ) → length t ≤ j → digits_to end n (drop j t) ≡ none
@@ -60,11 +51,11 @@ pub number_end : (end : ℕ) (t : List ℕ) (j : ℕ) → length t ≤ j → num
 unfolding number_to
 number_end end t j h = rw (drop_of_length-le t {i = j} h)
 
-module _ (end : ℕ) (t : List ℕ) (j : ℕ) (h : j < length t) where
-  pub number_next : digit (get_or t j 0) ≡ true → number_to end (drop j t) ≡ digits_to end (get_or t j 0 - 48) (drop (j + 1) t)
-  unfolding number_to
-  number_next g = rw (add-one j, drop-cons t j 0 h, g)
+module _ (end : ℕ) (t : List ℕ) (j b : ℕ) (h : j < length t) (e : b ≡ get_or t j 0) where
+  pub number_next : is_ascii_digit b ≡ true → number_to end (drop j t) ≡ digits_to end (b - 48) (drop (j + 1) t)
+  unfolding number_to digit
+  number_next g = rw (add-one j, drop-cons t j 0 h, ← e, g)
 
-  pub number_off : digit (get_or t j 0) ≡ false → number_to end (drop j t) ≡ none
-  unfolding number_to
-  number_off g = rw (drop-cons t j 0 h, g)
+  pub number_off : is_ascii_digit b ≡ false → number_to end (drop j t) ≡ none
+  unfolding number_to digit
+  number_off g = rw (drop-cons t j 0 h, ← e, g)

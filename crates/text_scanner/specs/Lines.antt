@@ -1,29 +1,22 @@
 -- What the answers for lines stand for.
 -- Assumes nothing.
+use Rattle.std.specs.Prelude.{ℕ, Option}
 use Rattle.model.specs.Plan as m
+use Rattle.plan.specs.declared.PlanLine.{PlanLine}
+use Rattle.plan.specs.declared.Slot.{Slot}
+use Rattle.plan.specs.declared.Process.{Process}
+use Rattle.plan.specs.declared.Edge.{Edge}
 use Rattle.plan.specs.Memory.{line_of, slot_of, process_of, edge_of}
-use Rattle.text_scanner.specs.Place.{Place, nowhere, found}
-use Rattle.text_scanner.specs.declared.lines.PlanLineAt.{PlanLineAt}
-use Rattle.text_scanner.specs.declared.lines.PlanLineAt.TheVariants as PlanLineA
-use Rattle.text_scanner.specs.declared.lines.SlotAt.{SlotAt}
-use Rattle.text_scanner.specs.declared.lines.SlotAt.TheVariants as SlotA
-use Rattle.text_scanner.specs.declared.lines.ProcessAt.{ProcessAt}
-use Rattle.text_scanner.specs.declared.lines.ProcessAt.TheVariants as ProcessA
-use Rattle.text_scanner.specs.declared.lines.EdgeAt.{EdgeAt}
-use Rattle.text_scanner.specs.declared.lines.EdgeAt.TheVariants as EdgeA
+use Rattle.text_scanner.specs.Place.{Place, placed}
 
-abbrev pub plan_line : PlanLineAt → Place m.PlanLine
-plan_line (PlanLineA.Got x i) = found (line_of x) i
-plan_line PlanLineA.No = nowhere
+abbrev pub plan_line : Option (PlanLine × ℕ) → Place m.PlanLine
+plan_line r = placed line_of r
 
-abbrev pub slot : SlotAt → Place m.Slot
-slot (SlotA.Got x i) = found (slot_of x) i
-slot SlotA.No = nowhere
+abbrev pub slot : Option (Slot × ℕ) → Place m.Slot
+slot r = placed slot_of r
 
-abbrev pub process : ProcessAt → Place m.Process
-process (ProcessA.Got x i) = found (process_of x) i
-process ProcessA.No = nowhere
+abbrev pub process : Option (Process × ℕ) → Place m.Process
+process r = placed process_of r
 
-abbrev pub edge : EdgeAt → Place m.Edge
-edge (EdgeA.Got x i) = found (edge_of x) i
-edge EdgeA.No = nowhere
+abbrev pub edge : Option (Edge × ℕ) → Place m.Edge
+edge r = placed edge_of r

@@ -1,12 +1,8 @@
 -- What is found at a position of the text, as the answers of the code say it: a value and the position behind it, or
 -- nothing.
 -- Assumes nothing.
-use Rattle.std.specs.Prelude.{ℕ, ◌≤◌, ◌≡◌, List, length, drop}
+use Rattle.std.specs.Prelude.{ℕ, ◌≤◌, ◌≡◌, List, length, drop, Option, None, Some}
 use Rattle.text_grammar.specs.Parse.{Parsed, none, got}
-use Rattle.text_scanner.specs.declared.words.WordAt.{WordAt}
-use Rattle.text_scanner.specs.declared.words.WordAt.TheVariants as W
-use Rattle.text_scanner.specs.declared.words.NumberAt.{NumberAt}
-use Rattle.text_scanner.specs.declared.words.NumberAt.TheVariants as N
 
 pub data Place (A : Type 0) : Type 0 where
   nowhere : Place A
@@ -27,11 +23,14 @@ pub record Scanned {A : Type 0} (text : List ℕ) (r : Place A) (p : Parsed A) :
   pub within : Within text r
   pub same : seen text r ≡ p
 
--- what the answers for a word and a number stand for
-abbrev pub next : WordAt → Place (Unit {0})
-next (W.Got i) = found tt i
-next W.No = nowhere
+-- what an answer stands for: of a position alone; of a value, seen as one of the model, with a position; of a number
+abbrev pub next : Option ℕ → Place (Unit {0})
+next None = nowhere
+next (Some i) = found tt i
 
-abbrev pub number : NumberAt → Place ℕ
-number (N.Got n i) = found n i
-number N.No = nowhere
+abbrev pub placed : {A B : Type 0} → (A → B) → Option (A × ℕ) → Place B
+placed view None = nowhere
+placed view (Some r) = found (view r.0) r.1
+
+abbrev pub number : Option (ℕ × ℕ) → Place ℕ
+number r = placed (λ n. n) r

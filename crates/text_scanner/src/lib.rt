@@ -8,5 +8,5 @@ mod line_ends;
 mod lines;
 mod words;
 
-pub use lines::{EdgeAt, PlanLineAt, ProcessAt, SlotAt, condition, edge, plan_line, process, slot};
-pub use words::{NumberAt, WordAt, closed, field, number_to, word};
+pub use lines::{condition, edge, plan_line, process, slot};
+pub use words::{closed, field, number_to, word};

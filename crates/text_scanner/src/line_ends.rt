@@ -4,71 +4,44 @@ ghost use Rattle.text_grammar.specs.Parse.{pick_at, waits_at, when_at};
 ghost use Rattle.text_scanner.specs.Place.{Scanned};
 ghost use Rattle.text_scanner.specs.LineEnds.{pick, waits, when};
 
-use crate::words::{NumberAt, WordAt, closed, word};
+use crate::words::{closed, word};
 use plan::{Pick, Waits, When};
 
-// A `pick` and the position behind its line, or that none stands there.
-#[derive(Clone, Copy)]
-pub enum PickAt {
-    Got(Pick, usize),
-    No,
-}
-
-// A `waits` and the position behind its line, or that none stands there.
-#[derive(Clone, Copy)]
-pub enum WaitsAt {
-    Got(Waits, usize),
-    No,
-}
-
-// A `when` and the position behind its line, or that none stands there.
-#[derive(Clone, Copy)]
-pub enum WhenAt {
-    Got(When, usize),
-    No,
-}
-
 // The end of the plan line.
-pub(crate) fn pick(text: &[u8], at: usize) -> PickAt
+pub(crate) fn pick(text: &[u8], at: usize) -> Option<(Pick, usize)>
     requires { at ≤ length text.now }
     ensures { Scanned text.now (pick result) (pick_at (drop at text.now)) }
 {
-    if let WordAt::Got(i) = word(text, at, b" (pick urgency))\n") {
-        return PickAt::Got(Pick::Urgency, i);
+    if let Some(i) = word(text, at, b" (pick urgency))\n") {
+        return Some((Pick::Urgency, i));
     }
-    if let WordAt::Got(i) = word(text, at, b" (pick number))\n") {
-        return PickAt::Got(Pick::Number, i);
-    }
-    PickAt::No
+    let i = word(text, at, b" (pick number))\n")?;
+    Some((Pick::Number, i))
 }
 
 // The end of a process line.
-pub(crate) fn waits(text: &[u8], at: usize) -> WaitsAt
+pub(crate) fn waits(text: &[u8], at: usize) -> Option<(Waits, usize)>
     requires { at ≤ length text.now }
     ensures { Scanned text.now (waits result) (waits_at (drop at text.now)) }
 {
-    if let WordAt::Got(i) = word(text, at, b" (waits all))\n") {
-        return WaitsAt::Got(Waits::All, i);
+    if let Some(i) = word(text, at, b" (waits all))\n") {
+        return Some((Waits::All, i));
     }
-    if let WordAt::Got(i) = word(text, at, b" (waits any))\n") {
-        return WaitsAt::Got(Waits::Any, i);
-    }
-    WaitsAt::No
+    let i = word(text, at, b" (waits any))\n")?;
+    Some((Waits::Any, i))
 }
 
 // The end of an edge line.
-pub(crate) fn when(text: &[u8], at: usize) -> WhenAt
+pub(crate) fn when(text: &[u8], at: usize) -> Option<(When, usize)>
     requires { at ≤ length text.now }
     ensures { Scanned text.now (when result) (when_at (drop at text.now)) }
 {
-    if let WordAt::Got(i) = word(text, at, b" (when always))\n") {
-        return WhenAt::Got(When::Always, i);
+    if let Some(i) = word(text, at, b" (when always))\n") {
+        return Some((When::Always, i));
     }
-    if let NumberAt::Got(k, i) = closed(text, at, b" (when (true ", b"))\n") {
-        return WhenAt::Got(When::True(k), i);
+    if let Some((k, i)) = closed(text, at, b" (when (true ", b"))\n") {
+        return Some((When::True(k), i));
     }
-    if let NumberAt::Got(k, i) = closed(text, at, b" (when (false ", b"))\n") {
-        return WhenAt::Got(When::False(k), i);
-    }
-    WhenAt::No
+    let (k, i) = closed(text, at, b" (when (false ", b"))\n")?;
+    Some((When::False(k), i))
 }

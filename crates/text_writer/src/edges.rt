@@ -3,6 +3,7 @@ ghost use Rattle.model.specs.Text.{when_text, edge_line};
 ghost use Rattle.plan.specs.Memory.{when_of, edge_of};
 ghost use Rattle.text_lines.specs.Put.{Counts, Put};
 
+use crate::lines::Line;
 use plan::{Edge, When};
 use text_lines::{put_labelled, put_word};
 
@@ -24,16 +25,17 @@ fn put_when(out: &mut [u8], at: usize, when: When) -> usize
     }
 }
 
-// Puts an edge line.
-pub(crate) fn put_edge(out: &mut [u8], at: usize, e: Edge) -> usize
-    requires { Counts at (edge_line (edge_of e)) }
-    ensures { Put out.old out.new at result (edge_line (edge_of e)) }
-{
-    let from = put_labelled(out, at, b"(edge (from ", e.from);
-    let to = put_labelled(out, from, b") (to ", e.to);
-    let bytes = put_labelled(out, to, b") (bytes ", e.bytes);
-    let before = put_word(out, bytes, b") (when ");
-    let when = e.when;
-    let end = put_when(out, before, when);
-    put_word(out, end, b"))\n")
+// The line of an edge.
+impl Line for Edge {
+    ghost line = { λ e. edge_line (edge_of e) };
+
+    fn put(self, out: &mut [u8], at: usize) -> usize {
+        let from = put_labelled(out, at, b"(edge (from ", self.from);
+        let to = put_labelled(out, from, b") (to ", self.to);
+        let bytes = put_labelled(out, to, b") (bytes ", self.bytes);
+        let before = put_word(out, bytes, b") (when ");
+        let when = self.when;
+        let end = put_when(out, before, when);
+        put_word(out, end, b"))\n")
+    }
 }

@@ -8,4 +8,4 @@ mod plan_text;
 mod runs;
 mod writer;
 
-pub use writer::{Written, write_plan};
+pub use writer::write_plan;

@@ -1,11 +1,21 @@
-// Each line of the plan text but an edge's, put into lent bytes from a place on: the bytes that lie within are stored,
-// and all are counted.
+// The lines of the plan text, each put into lent bytes from a place on: the bytes that lie within are stored, and all
+// are counted. Here each line but an edge's.
+ghost use Rattle.std.specs.Prelude.{List, ℕ};
 ghost use Rattle.model.specs.Text.{slot_line, process_line, condition_line, plan_line};
 ghost use Rattle.plan.specs.Memory.{lines, slot_of, process_of};
 ghost use Rattle.text_lines.specs.Put.{Counts, Put};
 
 use plan::{Pick, Plan, Process, Slot, Waits};
 use text_lines::{put_labelled, put_word};
+
+// What a line of one kind says, and how it is put.
+pub(crate) trait Line: Copy {
+    ghost line: { Self → List ℕ };
+
+    fn put(self, out: &mut [u8], at: usize) -> usize
+        requires { Counts at (line self) }
+        ensures { Put out.old out.new at result (line self) };
+}
 
 // Puts the plan line.
 pub(crate) fn put_plan_line(out: &mut [u8], at: usize, p: Plan) -> usize
@@ -22,35 +32,38 @@ pub(crate) fn put_plan_line(out: &mut [u8], at: usize, p: Plan) -> usize
     }
 }
 
-// Puts a slot line.
-pub(crate) fn put_slot(out: &mut [u8], at: usize, s: Slot) -> usize
-    requires { Counts at (slot_line (slot_of s)) }
-    ensures { Put out.old out.new at result (slot_line (slot_of s)) }
-{
-    let node = put_labelled(out, at, b"(slot (node ", s.node);
-    let bytes = put_labelled(out, node, b") (bytes ", s.bytes);
-    put_word(out, bytes, b"))\n")
-}
+// The line of a slot.
+impl Line for Slot {
+    ghost line = { λ s. slot_line (slot_of s) };
 
-// Puts a process line.
-pub(crate) fn put_process(out: &mut [u8], at: usize, q: Process) -> usize
-    requires { Counts at (process_line (process_of q)) }
-    ensures { Put out.old out.new at result (process_line (process_of q)) }
-{
-    let node = put_labelled(out, at, b"(process (node ", q.node);
-    let ticks = put_labelled(out, node, b") (ticks ", q.ticks);
-    let waits = q.waits;
-    match waits {
-        Waits::All => put_word(out, ticks, b") (waits all))\n"),
-        Waits::Any => put_word(out, ticks, b") (waits any))\n"),
+    fn put(self, out: &mut [u8], at: usize) -> usize {
+        let node = put_labelled(out, at, b"(slot (node ", self.node);
+        let bytes = put_labelled(out, node, b") (bytes ", self.bytes);
+        put_word(out, bytes, b"))\n")
     }
 }
 
-// Puts a condition line.
-pub(crate) fn put_condition(out: &mut [u8], at: usize, process: u32) -> usize
-    requires { Counts at (condition_line process) }
-    ensures { Put out.old out.new at result (condition_line process) }
-{
-    let end = put_labelled(out, at, b"(condition (process ", process);
-    put_word(out, end, b"))\n")
+// The line of a process.
+impl Line for Process {
+    ghost line = { λ q. process_line (process_of q) };
+
+    fn put(self, out: &mut [u8], at: usize) -> usize {
+        let node = put_labelled(out, at, b"(process (node ", self.node);
+        let ticks = put_labelled(out, node, b") (ticks ", self.ticks);
+        let waits = self.waits;
+        match waits {
+            Waits::All => put_word(out, ticks, b") (waits all))\n"),
+            Waits::Any => put_word(out, ticks, b") (waits any))\n"),
+        }
+    }
+}
+
+// The line of a condition, which is the number of its process.
+impl Line for u32 {
+    ghost line = { condition_line };
+
+    fn put(self, out: &mut [u8], at: usize) -> usize {
+        let end = put_labelled(out, at, b"(condition (process ", self);
+        put_word(out, end, b"))\n")
+    }
 }

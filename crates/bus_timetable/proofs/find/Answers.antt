@@ -1,85 +1,104 @@
 -- `bus_timetable::find` meets its contract: the sum so far and what is left of the slots give the whole answer.
 use mathlib.Core.Path.{◌≡◌, sym, ap, ◌∙◌}
-use mathlib.Core.List.{List}
-use Prim.Native.Nat.{ℕ, ◌+◌, ◌-◌, ◌≤◌, ◌<◌}
+use mathlib.Core.List.{List, [], ◌∷◌, map}
+use Prim.Native.Nat.{ℕ, ◌+◌, ◌≤◌, ◌<◌}
+use native.Mathlib.Numerals.{add-one}
 use native.Mathlib.Omega.{arith}
-use lib.ListN.{get_or}
+use lib.ListN.{length, get_or, drop, get_or-map, length-map, drop_of_length-le}
 use borrow.Author.Tests.{eq-eqb, ne_eqb}
-use Rattle.limits.specs.Limits.{SLOTTICKS}
-use Rattle.lists.specs.Lists.{upfrom}
-use Rattle.lists.proofs.Loops.{upfrom_start, upfrom_next, upfrom_end}
-use Rattle.plan.specs.declared.PlanLine.{PlanLine}
-use Rattle.plan.specs.Tests.{slot_bytes}
-use Rattle.bus_timetable.specs.Bus.{ticks_of, ticks_before, Small}
+use Rattle.std.proofs.Math.Seq.{drop-cons}
+use Rattle.model.specs.Plan.{Lines}
+use Rattle.model.specs.Plan as m
+use Rattle.model.specs.Bus.{slot_among, slot_of, offset_among, offset}
+use Rattle.plan.specs.declared.Slot.{Slot}
+use Rattle.plan.specs.Memory.{no_slot, lines}
+use Rattle.plan.specs.Memory as held
+use Rattle.plan.proofs.TestsOnLines.{slots_length}
 use Rattle.bus_timetable.proofs.TicksMost.{ticks_most}
-use borrow.Author.Rules.{rules}
+use Rattle.bus_timetable.proofs.TimetableOfModel.{ticks_same, fits, short, small}
 use Rattle.bus_timetable.proofs.find.Goals as goal
 
--- the ticks of one slot
-most : {line : PlanLine} {bytes : List ℕ} {slots : ℕ} → Small line bytes slots → (i : ℕ) → i < slots → ticks_of line (get_or bytes i 0) ≤ SLOTTICKS
-most s i l = ticks_most s.short _ (s.sizes i l)
+-- the slots from place i on, of which the first is in memory
+module _ (p : Lines) (ss : List Slot) (q : map held.slot_of ss ≡ p.slots) (i : ℕ) where
+  inside : i < length ss → i < length p.slots
+  inside l = omega (arith, l, length-map ss held.slot_of, ap length q)
 
-pub loop-i-init : goal.loop-i-init
-loop-i-init c =
-    let a = c.args in
-    let e = upfrom_start a.slots in
-    let t = ap (ticks_before a.line a.slot.now a.bytes.now a.node) e in
-    (search rules, search rules, omega (arith, t), ap (slot_bytes a.slot.now a.bytes.now a.node) e)
+  ahead : i < length ss → drop i p.slots ≡ held.slot_of (get_or ss i no_slot) ∷ drop (i + 1) p.slots
+  ahead l =
+      let e : get_or p.slots i (held.slot_of no_slot) ≡ held.slot_of (get_or ss i no_slot) =
+      ap (λ (xs : List m.Slot). get_or xs i (held.slot_of no_slot)) (sym q) ∙ get_or-map held.slot_of ss i no_slot in
+      drop-cons p.slots i (held.slot_of no_slot) (inside l) ∙ rw (e, add-one)
 
-pub slot_ticks-requires : goal.slot_ticks-requires
-slot_ticks-requires c =
-    let s = c.requires in
-    (s.short, s.sizes c.loop-i.i c.loop-i-test.true)
+  none_left : length ss ≤ i → drop i p.slots ≡ []
+  none_left l = drop_of_length-le p.slots (omega (arith, l, length-map ss held.slot_of, ap length q))
 
-pub overflow_add-next : goal.overflow_add-next
-overflow_add-next c =
-    let l = most c.requires c.loop-i.i c.loop-i-test.true in
-    let f = c.requires.few in
-    omega (arith, c.slot_ticks.ensures)
+pub slot_lines-s-items-requires : goal.slot_lines-s-items-requires
+slot_lines-s-items-requires c = fits c.args.p.now c.requires
 
-pub returns-then-slot-i : goal.returns-then-slot-i
-unfolding ticks_before slot_bytes
-returns-then-slot-i c =
-    let a = c.args in
-    let l = c.loop-i in
-    let s = c.requires in
-    let k = c.loop-i-test.true in
-    let e = upfrom_next a.slots l.i k in
-    let q = eq-eqb _ _ c.if-slot-i.true in
-    let t : ticks_before a.line a.slot.now a.bytes.now a.node (upfrom l.i (a.slots - l.i)) ≡ 0 = ap (ticks_before a.line a.slot.now a.bytes.now a.node) e ∙ rw q in
-    record {
-      before = omega (arith, t, l.invariant.2);
-      room = sym (l.invariant.3 ∙ ap (slot_bytes a.slot.now a.bytes.now a.node) e ∙ rw q);
-      room_most = s.sizes l.i k;
-    }
+pub returns-then-s-node-clause-before : goal.returns-then-s-node-clause-before
+unfolding offset offset_among
+returns-then-s-node-clause-before c =
+    let p = lines c.args.p.now in
+    let l = c.loop-s in
+    let e = ahead p _ c.slot_lines-s-items.ensures l.s-index c.loop-s-test.true in
+    let z : offset_among p (drop l.s-index p.slots) c.args.node ≡ 0 = rw (e, eq-eqb _ _ c.if-s-node.true) in
+    omega (arith, l.invariant.1, z)
 
-pub loop-i-preserved : goal.loop-i-preserved
-unfolding ticks_before slot_bytes
-loop-i-preserved c =
-    let a = c.args in
-    let l = c.loop-i in
-    let s = c.requires in
-    let k = c.loop-i-test.true in
-    let e = upfrom_next a.slots l.i k in
-    let q = ne_eqb _ _ c.if-slot-i.false in
-    let t : ticks_before a.line a.slot.now a.bytes.now a.node (upfrom l.i (a.slots - l.i)) ≡ ticks_of a.line (get_or a.bytes.now l.i 0) + ticks_before a.line a.slot.now a.bytes.now a.node (upfrom (l.i + 1) (a.slots - (l.i + 1))) = ap (ticks_before a.line a.slot.now a.bytes.now a.node) e ∙ rw q in
-    let m = most s l.i k in (
-      search rules,
-      omega (arith, m, l.invariant.1),
-      omega (arith, t, l.invariant.2),
-      l.invariant.3 ∙ ap (slot_bytes a.slot.now a.bytes.now a.node) e ∙ rw q,
-    )
+pub returns-then-s-node-clause-room : goal.returns-then-s-node-clause-room
+unfolding slot_of slot_among
+returns-then-s-node-clause-room c =
+    let p = lines c.args.p.now in
+    let l = c.loop-s in
+    let e = ahead p _ c.slot_lines-s-items.ensures l.s-index c.loop-s-test.true in
+    let z : slot_among (drop l.s-index p.slots) c.args.node ≡ held.slot_of (get_or c.slot_lines-s-items.result.now l.s-index no_slot) = rw (e, eq-eqb _ _ c.if-s-node.true) in
+    sym (ap (λ (s : m.Slot). s.bytes) (l.invariant.2 ∙ z))
 
-pub returns : goal.returns
-unfolding ticks_before slot_bytes
-returns c =
-    let a = c.args in
-    let l = c.loop-i in
-    let s = c.requires in
-    let e = upfrom_end a.slots l.i c.loop-i-test.false in
-    let t : ticks_before a.line a.slot.now a.bytes.now a.node (upfrom l.i (a.slots - l.i)) ≡ 0 = ap (ticks_before a.line a.slot.now a.bytes.now a.node) e in
-    record {
-      before = omega (arith, t, l.invariant.2);
-      room = sym (l.invariant.3 ∙ ap (slot_bytes a.slot.now a.bytes.now a.node) e);
-      room_most = search rules;
-    }
+pub returns-then-s-node-clause-room_most : goal.returns-then-s-node-clause-room_most
+returns-then-s-node-clause-room_most c = small c.args.p.now c.requires _ c.slot_lines-s-items.ensures c.loop-s.s-index c.loop-s-test.true
+
+pub slot_ticks-sum-requires : goal.slot_ticks-sum-requires
+slot_ticks-sum-requires c =
+    let p = c.args.p.now in
+    (short p c.requires, small p c.requires _ c.slot_lines-s-items.ensures c.loop-s.s-index c.loop-s-test.true)
+
+pub overflow_add-sum : goal.overflow_add-sum
+overflow_add-sum c =
+    let p = c.args.p.now in
+    let q = c.slot_lines-s-items.ensures in
+    let l = c.loop-s in
+    let t = c.loop-s-test.true in
+    let few = (fits p c.requires).slots in
+    let most = ticks_most (short p c.requires) _ (small p c.requires _ q l.s-index t) in
+    omega (arith, l.invariant.0, most, c.slot_ticks-sum.ensures, inside (lines p) _ q l.s-index t, slots_length p, few)
+
+pub loop-s-preserved : goal.loop-s-preserved
+unfolding offset_among slot_among
+loop-s-preserved c =
+    let p = c.args.p.now in
+    let q = c.slot_lines-s-items.ensures in
+    let l = c.loop-s in
+    let t = c.loop-s-test.true in
+    let n = ne_eqb _ _ c.if-s-node.false in
+    let e = ahead (lines p) _ q l.s-index t in
+    let most = ticks_most (short p c.requires) _ (small p c.requires _ q l.s-index t) in
+    let step : offset_among (lines p) (drop l.s-index (lines p).slots) c.args.node ≡ c.slot_ticks-sum.result + offset_among (lines p) (drop (l.s-index + 1) (lines p).slots) c.args.node =
+    rw (e, n) (ap (λ (k : ℕ). k + offset_among (lines p) (drop (l.s-index + 1) (lines p).slots) c.args.node) (ticks_same p _ ∙ sym c.slot_ticks-sum.ensures)) in
+    (omega (arith, most, l.invariant.0, c.slot_ticks-sum.ensures), omega (arith, l.invariant.1, step), l.invariant.2 ∙ rw (e, n))
+
+pub returns-clause-before : goal.returns-clause-before
+unfolding offset offset_among
+returns-clause-before c =
+    let p = lines c.args.p.now in
+    let l = c.loop-s in
+    let e = none_left p _ c.slot_lines-s-items.ensures l.s-index c.loop-s-test.false in
+    let z : offset_among p (drop l.s-index p.slots) c.args.node ≡ 0 = rw e in
+    omega (arith, l.invariant.1, z)
+
+pub returns-clause-room : goal.returns-clause-room
+unfolding slot_of slot_among
+returns-clause-room c =
+    let p = lines c.args.p.now in
+    let l = c.loop-s in
+    let e = none_left p _ c.slot_lines-s-items.ensures l.s-index c.loop-s-test.false in
+    let z : slot_among (drop l.s-index p.slots) c.args.node ≡ record { node = c.args.node; bytes = 0 } = rw e in
+    sym (ap (λ (s : m.Slot). s.bytes) (l.invariant.2 ∙ z))

@@ -1,17 +1,18 @@
 -- `checker::check_listing` meets its contract: a refusal of the plan, or else the answer to the listing.
-use mathlib.Core.Path.{sym, ap, refl, ◌∙◌}
+use mathlib.Core.Path.{sym, refl}
+use Rattle.std.proofs.lemmas.Result.{err_from_is_err_and}
 use Rattle.model.specs.ListingText.{by_plan}
-use Rattle.plan_refusals.specs.Answer.{refusal_of}
 use Rattle.checker_table.specs.Verdict.{answer_of}
 use Rattle.checker.proofs.check_listing.Goals as goal
 
-pub check_listed-requires : goal.check_listed-requires
-check_listed-requires c = sym c.refuse-refusal.ensures ∙ ap refusal_of c.in-Nothing.is
-
-pub returns-in-Refused : goal.returns-in-Refused
+pub returns-in_err-refuse : goal.returns-in_err-refuse
 unfolding answer_of
-returns-in-Refused c =
-    record { refusal = _; of_listing = by_plan _ (sym c.refuse-refusal.ensures ∙ ap refusal_of c.in-Refused.is); answer = refl }
+returns-in_err-refuse c =
+    let p = err_from_is_err_and c.from_residual.result c.from_residual.ensures.1 in
+    rw (p.1, p.2) (record { refusal = _; of_listing = by_plan _ (sym c.in_err-refuse.ensures); answer = refl })
 
-pub returns-in-Nothing : goal.returns-in-Nothing
-returns-in-Nothing c = c.check_listed.ensures
+pub check_listed-requires : goal.check_listed-requires
+check_listed-requires c = sym c.in_ok-refuse.ensures
+
+pub returns : goal.returns
+returns c = c.check_listed.ensures

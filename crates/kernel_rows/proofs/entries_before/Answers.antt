@@ -1,18 +1,29 @@
 -- `kernel_rows::entries_before` meets its contract: before turn i, what the entries from i on add is all that is left
 -- to count.
-use native.Mathlib.Omega.{arith}
+use Rattle.std.proofs.Common.{◌/◌, ◌<◌, ◌≤◌, length, sym, ◌∙◌, arith}
 use Rattle.kernel_rows.proofs.Rows.{before_end, before_here, before_next}
 use Rattle.kernel_rows.proofs.entries_before.Goals as goal
 
-pub returns-then-table-i : goal.returns-then-table-i
-returns-then-table-i c =
-    let t = c.args.table.now in
-    record { value = omega (arith, c.loop-i.invariant, before_here t c.args.row c.loop-i.i c.loop-i-test.true c.if-table-i.true); upper_bound = omega arith }
+pub returns-then-row_of-row-clause-value : goal.returns-then-row_of-row-clause-value
+returns-then-row_of-row-clause-value g c =
+    λ words t.
+    let i = c.loop-i.i in
+    let l : i < length words / 5 = omega (arith, t.count) in
+    let q = t.rows i c.row_of.result c.loop-i-test.true c.row_of.ensures in
+    omega (arith, c.loop-i.invariant.1 words t, before_here words c.args.row i l (sym q ∙ c.if-row_of-row.true))
 
 pub loop-i-preserved : goal.loop-i-preserved
-loop-i-preserved c =
-    let t = c.args.table.now in
-    (omega arith, omega (arith, c.loop-i.invariant, before_next t c.args.row c.loop-i.i c.loop-i-test.true c.if-table-i.false))
+loop-i-preserved g c = (
+  omega arith,
+  λ words t.
+      let i = c.loop-i.i in
+      let l : i < length words / 5 = omega (arith, t.count) in
+      let q = t.rows i c.row_of.result c.loop-i-test.true c.row_of.ensures in
+      omega (arith, c.loop-i.invariant.1 words t, before_next words c.args.row i l (λ e. c.if-row_of-row.false (q ∙ e))),
+)
 
-pub returns : goal.returns
-returns c = record { value = omega (arith, c.loop-i.invariant, before_end c.args.table.now c.args.row c.loop-i.i c.loop-i-test.false); upper_bound = omega arith }
+pub returns-clause-value : goal.returns-clause-value
+returns-clause-value g c =
+    λ words t.
+    let l : length words / 5 ≤ c.loop-i.i = omega (arith, t.count) in
+    omega (arith, c.loop-i.invariant.1 words t, before_end words c.args.row c.loop-i.i l)

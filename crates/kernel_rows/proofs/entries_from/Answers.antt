@@ -1,18 +1,30 @@
 -- `kernel_rows::entries_from` meets its contract: before turn i, the entries from `first` to i are of the row, and what
 -- follows from i on is left to count.
-use native.Mathlib.Omega.{arith}
+use Rattle.std.proofs.Common.{◌/◌, ◌<◌, ◌≤◌, length, sym, ◌∙◌, arith}
 use Rattle.kernel_rows.proofs.Rows.{run_end, run_next, run_over}
 use Rattle.kernel_rows.proofs.entries_from.Goals as goal
 
-pub returns-then-table-i : goal.returns-then-table-i
-returns-then-table-i c =
-    let t = c.args.table.now in
-    record { value = omega (arith, c.loop-i.invariant, run_over t c.args.row c.loop-i.i c.loop-i-test.true c.if-table-i.true); result_in_bounds = omega arith }
+pub returns-then-row_of-row-clause-value : goal.returns-then-row_of-row-clause-value
+returns-then-row_of-row-clause-value g c =
+    λ words t.
+    let i = c.loop-i.i in
+    let l : i < length words / 5 = omega (arith, t.count) in
+    let q = t.rows i c.row_of.result c.loop-i-test.true c.row_of.ensures in
+    omega (arith, c.loop-i.invariant.2 words t, run_over words c.args.row i l (λ e. c.if-row_of-row.true (q ∙ e)))
 
 pub loop-i-preserved : goal.loop-i-preserved
-loop-i-preserved c =
-    let t = c.args.table.now in
-    (omega arith, omega arith, omega (arith, c.loop-i.invariant, run_next t c.args.row c.loop-i.i c.loop-i-test.true c.if-table-i.false))
+loop-i-preserved g c = (
+  omega arith,
+  omega arith,
+  λ words t.
+      let i = c.loop-i.i in
+      let l : i < length words / 5 = omega (arith, t.count) in
+      let q = t.rows i c.row_of.result c.loop-i-test.true c.row_of.ensures in
+      omega (arith, c.loop-i.invariant.2 words t, run_next words c.args.row i l (sym q ∙ c.if-row_of-row.false)),
+)
 
-pub returns : goal.returns
-returns c = record { value = omega (arith, c.loop-i.invariant, run_end c.args.table.now c.args.row c.loop-i.i c.loop-i-test.false); result_in_bounds = omega arith }
+pub returns-clause-value : goal.returns-clause-value
+returns-clause-value g c =
+    λ words t.
+    let l : length words / 5 ≤ c.loop-i.i = omega (arith, t.count) in
+    omega (arith, c.loop-i.invariant.2 words t, run_end words c.args.row c.loop-i.i l)

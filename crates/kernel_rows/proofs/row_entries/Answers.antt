@@ -1,28 +1,41 @@
 -- `kernel_rows::row_entries` meets its contract: the part begins past the entries before it, and is as long as the
 -- entries of the row that follow.
-use mathlib.Core.Path.{◌≡◌, sym}
-use Prim.Native.Nat.{◌+◌, ◌*◌}
-use native.Mathlib.Omega.{arith}
+use Rattle.std.proofs.Common.{◌≡◌, ◌+◌, ◌*◌, ◌<◌, ◌≤◌, sym, arith, rules}
 use Rattle.model.specs.Lookup.{row_start}
+use Rattle.kernel_rows.specs.RowRange.{RangeOf}
 use Rattle.kernel_rows.proofs.Rows.{none_start, none_part, some_start, some_part}
 use Rattle.kernel_rows.proofs.row_entries.Goals as goal
 
-pub returns-then-count-eq0 : goal.returns-then-count-eq0
-returns-then-count-eq0 c =
-    let s = c.args in
-    let t = s.table.now in
-    let f = c.entries_before-first in
-    let m = c.entries_from-count in
-    let z = none_start t s.row f.result m.result f.ensures.value m.ensures.value c.if-count-eq0.true in
-    let q : 0 * 4 + s.table.ref_ptr.1 ≡ s.table.ref_ptr.1 + row_start t s.row * 4 = omega (arith, z) in
-    record { place = λ j. (s.table.ref_ptr.0, q j); words = sym (none_part t s.row f.result m.result f.ensures.value m.ensures.value c.if-count-eq0.true) }
+pub returns-then-is_empty-clause-place : goal.returns-then-is_empty-clause-place
+returns-then-is_empty-clause-place c =
+    let t = c.args.table in
+    let e = c.row_range-entries in
+    let d : RangeOf t.now c.args.row e.result.start e.result.end = e.ensures.value t.now (search rules) in
+    let z : e.result.end ≤ e.result.start = search rules in
+    let s = none_start t.now c.args.row _ _ d z in
+    let q : t.ref_ptr.1 ≡ t.ref_ptr.1 + row_start t.now c.args.row * 4 = omega (arith, s) in
+    λ j. (t.ref_ptr.0, q j)
 
-pub returns : goal.returns
-returns c =
-    let s = c.args in
-    let t = s.table.now in
-    let f = c.entries_before-first in
-    let m = c.entries_from-count in
-    let z = some_start t s.row f.result m.result f.ensures.value m.ensures.value c.if-count-eq0.false in
-    let q : f.result * 5 * 4 + s.table.ref_ptr.1 ≡ s.table.ref_ptr.1 + row_start t s.row * 4 = omega (arith, z) in
-    record { place = λ j. (s.table.ref_ptr.0, q j); words = sym (some_part t s.row f.result m.result f.ensures.value m.ensures.value c.if-count-eq0.false) }
+pub returns-then-is_empty-clause-words : goal.returns-then-is_empty-clause-words
+returns-then-is_empty-clause-words c =
+    let t = c.args.table in
+    let e = c.row_range-entries in
+    let d : RangeOf t.now c.args.row e.result.start e.result.end = e.ensures.value t.now (search rules) in
+    sym (none_part t.now c.args.row _ _ d (search rules))
+
+pub returns-clause-place : goal.returns-clause-place
+returns-clause-place c =
+    let t = c.args.table in
+    let e = c.row_range-entries in
+    let d : RangeOf t.now c.args.row e.result.start e.result.end = e.ensures.value t.now (search rules) in
+    let z : e.result.start < e.result.end = search rules in
+    let s = some_start t.now c.args.row _ _ d z in
+    let q : e.result.start * 5 * 4 + t.ref_ptr.1 ≡ t.ref_ptr.1 + row_start t.now c.args.row * 4 = omega (arith, s) in
+    λ j. (t.ref_ptr.0, q j)
+
+pub returns-clause-words : goal.returns-clause-words
+returns-clause-words c =
+    let t = c.args.table in
+    let e = c.row_range-entries in
+    let d : RangeOf t.now c.args.row e.result.start e.result.end = e.ensures.value t.now (search rules) in
+    sym (some_part t.now c.args.row _ _ d (search rules))

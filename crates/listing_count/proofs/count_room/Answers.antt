@@ -6,4 +6,4 @@ use Rattle.listing_count.proofs.count_room.Goals as goal
 pub returns : goal.returns
 returns c =
     let a = c.args in
-    omega (arith, passed_length a.node a.count, c.difference_usize.ensures, c.digits-2.ensures.0, c.digits.ensures.0)
+    omega (arith, passed_length a.node a.count, c.saturating_sub.ensures, c.digits-2.ensures.0, c.digits.ensures.0)

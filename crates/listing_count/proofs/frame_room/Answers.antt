@@ -6,4 +6,4 @@ use Rattle.listing_count.proofs.frame_room.Goals as goal
 pub returns : goal.returns
 returns c =
     let a = c.args in
-    omega (arith, frame_length a.tick a.node a.used, c.difference_usize.ensures, c.digits-3.ensures.0, c.digits-2.ensures.0, c.digits.ensures.0)
+    omega (arith, frame_length a.tick a.node a.used, c.saturating_sub.ensures, c.digits-3.ensures.0, c.digits-2.ensures.0, c.digits.ensures.0)

@@ -15,9 +15,9 @@ returns-then-known-eq0 c =
 pub returns-then-values-eq0 : goal.returns-then-values-eq0
 returns-then-values-eq0 c =
     let a = c.args in
-    omega (arith, ap length (value_false a.known a.values a.k c.if-known-eq0.false c.if-values-eq0.true), false_length a.k, c.difference_usize.ensures, c.digits.ensures.0)
+    omega (arith, ap length (value_false a.known a.values a.k c.if-known-eq0.false c.if-values-eq0.true), false_length a.k, c.saturating_sub.ensures, c.digits.ensures.0)
 
 pub returns : goal.returns
 returns c =
     let a = c.args in
-    omega (arith, ap length (value_true a.known a.values a.k c.if-known-eq0.false c.if-values-eq0.false), true_length a.k, c.difference_usize-2.ensures, c.digits-2.ensures.0)
+    omega (arith, ap length (value_true a.known a.values a.k c.if-known-eq0.false c.if-values-eq0.false), true_length a.k, c.saturating_sub-2.ensures, c.digits-2.ensures.0)

@@ -1,6 +1,6 @@
 -- `planner_combinations::plan_combinations` meets its contract: before turn c the combinations below c are planned, and
 -- the turn plans c.
-use mathlib.Core.Path.{◌≡◌, ap, ◌∙◌}
+use mathlib.Core.Path.{◌≡◌, refl, ap, ◌∙◌}
 use Prim.Native.Nat.{ℕ, ◌<◌, ◌^◌}
 use native.Mathlib.Omega.{arith}
 use lib.ListN.{length-replicate}
@@ -32,14 +32,11 @@ how_many-n-requires c = c.conditions_of.ensures.1
 
 pub loop-c-init : goal.loop-c-init
 loop-c-init c =
-    (omega arith, sofar_start (laid c.args.index.now) c.args.comes.now c.args.place.now c.args.since.now c.requires.1 c.requires.2 c.requires.3 (length-replicate {A = ℕ} 3584 1) c.no_counts-passed.ensures)
+    (omega arith, sofar_start (laid c.args.index.now) c.args.comes.now c.args.place.now c.args.since.now c.requires.1 c.requires.2 c.requires.3 (length-replicate {A = ℕ} 3584 1) refl)
 
 pub plan_one-last-requires : goal.plan_one-last-requires
 plan_one-last-requires c =
     (c.requires.0, within c.before.before.before.before.before.before, sofar_before c.loop-c.invariant.1)
-
-pub overflow_add-c : goal.overflow_add-c
-overflow_add-c c = omega (arith, few c.before.before.before.before.before.before.before.before.before)
 
 pub loop-c-smaller : goal.loop-c-smaller
 loop-c-smaller c = let t = c.loop-c-test.true in omega (arith, t)
@@ -48,7 +45,7 @@ pub loop-c-preserved : goal.loop-c-preserved
 loop-c-preserved c = (
   (let t = c.loop-c-test.true in omega (arith, t)),
   sofar_next (planindex c.before.before.before.before.before.before.before.before.before.before) c.requires.0 c.loop-c.c c.loop-c.latest c.plan_one-last.result c.loop-c.comes c.loop-c.place c.loop-c.since c.loop-c.notes c.loop-c.passed _ _ _ _ _
-      (few c.before.before.before.before.before.before.before.before.before) (within c.before.before.before.before.before.before.before.before.before) c.loop-c.invariant.1 c.plan_one-last.ensures c.greater-latest.ensures,
+      (few c.before.before.before.before.before.before.before.before.before) (within c.before.before.before.before.before.before.before.before.before) c.loop-c.invariant.1 c.plan_one-last.ensures c.max-latest.ensures,
 )
 
 pub returns : goal.returns

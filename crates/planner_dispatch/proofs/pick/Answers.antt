@@ -1,5 +1,4 @@
 -- `planner_dispatch::pick` meets its contract: what the processes from place j on give is what all of them give.
-use native.Mathlib.Omega.{arith}
 use mathlib.Core.Path.{refl, sym, ap, ◌∙◌}
 use Rattle.plan_index.specs.Index.{laid}
 use Rattle.log_rows.specs.Rows.{rows_of}
@@ -11,14 +10,13 @@ pub loop-j-init : goal.loop-j-init
 loop-j-init c =
     refl
 
-pub returns-then-can_start : goal.returns-then-can_start
-returns-then-can_start c =
+pub returns-then-can_start-clause-first : goal.returns-then-can_start-clause-first
+returns-then-can_start-clause-first c =
     let a = c.args in
     let b = laid a.index.now in
     let test = can_start_in b (rows_of a.rows.now) a.u in
     let e = c.dispatch_of-i.ensures.0 in
-    let whole = e ∙ sym (c.loop-j.invariant ∙ first_pass b.dispatch c.loop-j.j a.b c.loop-j-test.true test (ap test (sym e) ∙ sym c.can_start.ensures ∙ c.if-can_start.true)) in
-    (whole, omega (arith, c.dispatch_of-i.ensures.1))
+    e ∙ sym (c.loop-j.invariant ∙ first_pass b.dispatch c.loop-j.j a.b c.loop-j-test.true test (ap test (sym e) ∙ sym c.can_start.ensures ∙ c.if-can_start.true))
 
 pub loop-j-preserved : goal.loop-j-preserved
 loop-j-preserved c =
@@ -28,8 +26,8 @@ loop-j-preserved c =
     let e = c.dispatch_of-i.ensures.0 in
     c.loop-j.invariant ∙ first_fail b.dispatch c.loop-j.j a.b c.loop-j-test.true test (ap test (sym e) ∙ sym c.can_start.ensures ∙ c.if-can_start.false)
 
-pub returns : goal.returns
-returns c =
+pub returns-clause-first : goal.returns-clause-first
+returns-clause-first c =
     let a = c.args in
     let b = laid a.index.now in
-    (sym (c.loop-j.invariant ∙ first_end b.dispatch c.loop-j.j a.b (can_start_in b (rows_of a.rows.now) a.u) c.loop-j-test.false), omega arith)
+    sym (c.loop-j.invariant ∙ first_end b.dispatch c.loop-j.j a.b (can_start_in b (rows_of a.rows.now) a.u) c.loop-j-test.false)

@@ -1,6 +1,5 @@
 -- `planner_dispatch::pick` meets its contract: what the processes from place j on give is what all of them give.
 use mathlib.Core.Path.{◌≡◌}
-use Prim.Native.Nat.{◌-◌}
 use Rattle.plan_index.specs.Index.{laid}
 use Rattle.log_rows.specs.Rows.{rows_of}
 use Rattle.planner_dispatch.specs.Dispatching.{picked}
@@ -9,6 +8,3 @@ use Rattle.planner_dispatch.proofs.pick.Given as goal
 abbrev pub invariant-loop-j : goal.invariant-loop-j
 invariant-loop-j l =
     picked (laid l.index) (rows_of l.rows) l.u l.a l.b ≡ picked (laid l.index) (rows_of l.rows) l.u l.j l.b
-
-abbrev pub decreases-loop-j : goal.decreases-loop-j
-decreases-loop-j l = l.b - l.j

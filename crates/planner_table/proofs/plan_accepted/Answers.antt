@@ -1,8 +1,7 @@
 -- `planner_table::plan_accepted` meets its contract: the logs of all combinations are those of the plan index's plan,
 -- and what is written from them is its answer.
-use mathlib.Core.Path.{ap, ◌∙◌}
 use Prim.Native.Nat.{ℕ}
-use lib.ListN.{length, length-replicate}
+use lib.ListN.{length-replicate}
 use Rattle.plan.specs.Memory.{lines}
 use Rattle.plan_layout.proofs.IndexOfLines.{indexed_lines}
 use Rattle.planner_table.proofs.plan_accepted.Goals as goal
@@ -12,7 +11,7 @@ plan_combinations-t-requires c = (
   record { plan = lines c.args.p; passes = c.requires; indexed = indexed_lines c.args.p c.requires c.of_plan-index.ensures },
   length-replicate {A = ℕ} 12672 1,
   length-replicate {A = ℕ} 12672 1,
-  ap length c.no_clocks-since.ensures ∙ length-replicate {A = ℕ} 64 0,
+  length-replicate {A = ℕ} 64 0,
 )
 
 pub write_all-requires : goal.write_all-requires

@@ -1,9 +1,9 @@
 -- `planner_table::write_all` meets its contract: the entries and frames listed are the model's, and each is written
 -- only where all lent words suffice.
-use mathlib.Core.Path.{◌≡◌, refl, sym, ap, ◌∙◌}
+use mathlib.Core.Path.{◌≡◌, refl, sym, ◌∙◌}
 use Prim.Native.Nat.{ℕ, ◌≤◌}
 use native.Mathlib.Omega.{arith}
-use lib.ListN.{length, length-replicate}
+use lib.ListN.{length-replicate}
 use Rattle.model.specs.Plan.{Lines}
 use Rattle.model.specs.Refusals.{nothing, plan_refusal}
 use Rattle.plan_index.specs.declared.PlanIndex.{PlanIndex}
@@ -13,6 +13,7 @@ use Rattle.plan_layout.proofs.Bounds.{bounded}
 use Rattle.planner_table.specs.Planner.{Entered, SomePlans}
 use Rattle.planner_combinations.specs.declared.Totals.{Totals}
 use Rattle.table_entries.specs.Logs.{Logs}
+use Rattle.refusals.specs.declared.Refusal.TheVariants as refusal
 use mathlib.Core.List.{List}
 use Rattle.planner_table.proofs.Answering.{answer_ten, answer_eleven, answer_made, refused_answers, made_answers}
 use Rattle.planner_table.proofs.Entering.{logs}
@@ -37,7 +38,7 @@ list_entries-count-requires c =
     let i = c.requires in (
       record { plan = i.plan; passes = i.passes; indexed = i.indexed; logged = logs i.plan _ i.indexed _ _ _ _ i.all },
       length-replicate {A = ℕ} 12672 1,
-      ap length c.no_places-ends.ensures ∙ length-replicate {A = ℕ} 199 0,
+      length-replicate {A = ℕ} 199 0,
     )
 
 pub overflow_mul-count : goal.overflow_mul-count
@@ -48,7 +49,7 @@ overflow_mul-count c =
 pub returns-then-table-count : goal.returns-then-table-count
 returns-then-table-count c p fine o a =
     let e = c.list_entries-count.ensures p fine o (logs p _ o _ _ _ _ a) in
-    refused_answers p c.args.table.now c.args.frames.now c.args.passed.now 10 (answer_ten p _ _ fine (omega (arith, e.counted, c.if-table-count.true))) refl refl refl
+    refused_answers p c.args.table.now c.args.frames.now c.args.passed.now refusal.LentRoom (answer_ten p _ _ fine (omega (arith, e.counted, c.if-table-count.true))) refl refl refl
 
 pub collect-used-requires : goal.collect-used-requires
 collect-used-requires c =
@@ -106,5 +107,5 @@ returns c p fine o a =
     let g = c.collect-used.ensures in
     let f = framed b _ _ _ _ _ g.0 g.1 g.2 p fine o e in
     let w = c.write_both.ensures.kept c.if-write_both.false in
-    refused_answers p c.args.table.now c.args.frames.now c.args.passed.now 11
+    refused_answers p c.args.table.now c.args.frames.now c.args.passed.now refusal.FrameRoom
     (answer_eleven p _ _ fine (omega (arith, e.counted, c.if-table-count.false)) (omega (arith, f.counted, w.0))) w.1 w.2 refl

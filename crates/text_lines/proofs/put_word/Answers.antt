@@ -7,23 +7,23 @@ use lib.Seq.{take-suc, take_all, length-take-le}
 use Rattle.text_lines.proofs.Puts.{put_none, put_then, put_length}
 use Rattle.text_lines.proofs.put_word.Goals as goal
 
-pub loop-i-init : goal.loop-i-init
-loop-i-init c = (omega arith, put_none _ _)
+pub loop-b-init : goal.loop-b-init
+loop-b-init c = (omega arith, put_none _ _)
 
 pub put_byte-end-requires : goal.put_byte-end-requires
 put_byte-end-requires c =
-    let l = c.loop-i in
-    record { fits = omega (arith, c.requires.fits, l.invariant.1.count, length-take-le l.i c.args.word.now l.invariant.0) }
+    let l = c.loop-b in
+    record { fits = omega (arith, c.requires.fits, l.invariant.1.count, length-take-le l.b-index c.args.word.now l.invariant.0) }
 
-pub loop-i-preserved : goal.loop-i-preserved
-loop-i-preserved c =
+pub loop-b-preserved : goal.loop-b-preserved
+loop-b-preserved c =
     let word = c.args.word.now in
-    let l = c.loop-i in
-    let h : l.i < length word = omega arith in
-    (omega arith, rw (add-one l.i, take-suc word l.i 0 h) (put_then l.invariant.1 c.put_byte-end.ensures))
+    let l = c.loop-b in
+    let h : l.b-index < length word = omega arith in
+    (omega arith, rw (add-one l.b-index, take-suc word l.b-index 0 h) (put_then l.invariant.1 c.put_byte-end.ensures))
 
 pub shape_of-out : goal.shape_of-out
-shape_of-out c = put_length c.loop-i.invariant.1
+shape_of-out c = put_length c.loop-b.invariant.1
 
 pub returns : goal.returns
-returns c = rw (take_all c.loop-i.i c.args.word.now (omega arith)) at c.loop-i.invariant.1
+returns c = rw (take_all c.loop-b.b-index c.args.word.now (omega arith)) at c.loop-b.invariant.1

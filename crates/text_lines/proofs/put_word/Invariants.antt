@@ -1,11 +1,8 @@
 -- `text_lines::put_word` meets its contract: before turn i the first i bytes of the word are put.
-use Prim.Native.Nat.{◌≤◌, ◌-◌}
+use Prim.Native.Nat.{◌≤◌}
 use lib.ListN.{length, take}
 use Rattle.text_lines.specs.Put.{Put}
 use Rattle.text_lines.proofs.put_word.Given as goal
 
-abbrev pub invariant-loop-i : goal.invariant-loop-i
-invariant-loop-i l = (l.i ≤ length l.word) × Put l.initial.out l.out l.at l.end (take l.i l.word)
-
-abbrev pub decreases-loop-i : goal.decreases-loop-i
-decreases-loop-i l = length l.word - l.i
+abbrev pub invariant-loop-b : goal.invariant-loop-b
+invariant-loop-b l = (l.b-index ≤ length l.word) × Put l.initial.out l.out l.at l.end (take l.b-index l.word)

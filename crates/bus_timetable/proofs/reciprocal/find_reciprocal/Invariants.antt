@@ -3,8 +3,5 @@ use Prim.Native.Nat.{◌-◌, ◌^◌, ◌≤◌}
 use Rattle.bus_timetable.specs.Bus.{Shared}
 use Rattle.bus_timetable.proofs.reciprocal.find_reciprocal.Given as goal
 
-abbrev pub invariant-loop-i : goal.invariant-loop-i
-invariant-loop-i l = (l.i ≤ 31) × Shared l.round (2 ^ l.i - 1) l.s
-
-abbrev pub decreases-loop-i : goal.decreases-loop-i
-decreases-loop-i l = 31 - l.i
+abbrev pub invariant-loop-turn : goal.invariant-loop-turn
+invariant-loop-turn l = (l._turn ≤ 31) × Shared l.round (2 ^ l._turn - 1) l.s

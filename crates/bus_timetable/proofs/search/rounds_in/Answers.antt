@@ -11,14 +11,14 @@ product-most a b l k = mul-le-mul {n₁ = a} {m₁ = b} {n₂ = 2147483647} {m�
 pub overflow_mul-result : goal.overflow_mul-result
 overflow_mul-result c =
     let e = c.requires in
-    let m = product-most c.long.result c.long-2.result (omega (arith, e.0, c.long.ensures)) (omega (arith, e.1, c.long-2.ensures)) in
+    let m = product-most c.from.result c.from-2.result (omega (arith, e.0, c.from.ensures)) (omega (arith, e.1, c.from-2.ensures)) in
     omega (arith, m)
 
 pub overflow_cast-result : goal.overflow_cast-result
 overflow_cast-result c =
     let e = c.requires in
-    let m = product-most c.long.result c.long-2.result (omega (arith, e.0, c.long.ensures)) (omega (arith, e.1, c.long-2.ensures)) in
+    let m = product-most c.from.result c.from-2.result (omega (arith, e.0, c.from.ensures)) (omega (arith, e.1, c.from-2.ensures)) in
     omega (arith, m)
 
 pub returns : goal.returns
-returns c = λ i. c.long.ensures i * c.long-2.ensures i / 2147483648
+returns c = λ i. c.from.ensures i * c.from-2.ensures i / 2147483648

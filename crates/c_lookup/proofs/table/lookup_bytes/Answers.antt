@@ -1,8 +1,7 @@
 -- `c_lookup::lookup_bytes` meets its contract: the search by the nodes of the plan's rows is the model's.
-use mathlib.Core.Path.{sym, ap, ◌∙◌}
-use Prim.Native.Nat.{◌<◌}
-use native.Mathlib.Omega.{arith}
+use Rattle.std.proofs.Common.{◌≤◌, ◌<◌, sym, ap, ◌∙◌, arith, rules}
 use Rattle.model.specs.Firmware.{words_of}
+use Rattle.limits.specs.Limits.{ROWS}
 use Rattle.kernel.specs.Finding.{found_of}
 use Rattle.kernel.proofs.NodesOfModel.{few_rows, looked_up, unknown}
 use Rattle.c_lookup.proofs.table.lookup_bytes.Goals as goal
@@ -12,12 +11,13 @@ returns-then-p-wide c =
     let a = c.args in
     sym (ap found_of (unknown a.p c.requires a.node a.tick a.heard a.values (words_of a.bytes.now) a.first (omega (arith, c.wide.ensures, c.if-p-wide.true))))
 
-pub first_fitting-requires : goal.first_fitting-requires
-first_fitting-requires c =
-    rw c.row_nodes-b.ensures (few_rows c.args.p c.requires)
+pub first_entry-requires : goal.first_entry-requires
+first_entry-requires c =
+    let few : c.row_nodes-b.result.rows ≤ ROWS = rw c.row_nodes-b.ensures (few_rows c.args.p c.requires) in
+    search rules
 
 pub returns : goal.returns
 returns c =
     let a = c.args in
     let known : a.node < a.p.slots = omega (arith, c.wide.ensures, c.if-p-wide.false) in
-    c.first_fitting.ensures ∙ ap found_of (looked_up a.p c.requires a.node a.tick a.heard a.values c.row_nodes-b.ensures (words_of a.bytes.now) a.first known)
+    c.first_entry.ensures _ (words_of a.bytes.now) (search rules) ∙ ap found_of (looked_up a.p c.requires a.node a.tick a.heard a.values c.row_nodes-b.ensures (words_of a.bytes.now) a.first known)

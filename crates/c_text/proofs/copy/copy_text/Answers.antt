@@ -1,14 +1,13 @@
 -- `c_text::copy_text` meets its contract, by those of reader and plan writer.
+use Rattle.plan.specs.Memory.{lines}
+use Rattle.refusals.specs.Numbers.{numbered}
 use Rattle.c_text.proofs.Copying.{refused_copies, read_copies}
 use Rattle.c_text.proofs.copy.copy_text.Goals as goal
 
-pub returns-in-Refused : goal.returns-in-Refused
-returns-in-Refused c =
-    let r = c.read_plan-read in
-    refused_copies _ _ r.result r.ensures.answers _ _ c.in-Refused.is c.refused.ensures
-
-pub returns-in-Nothing : goal.returns-in-Nothing
-returns-in-Nothing c =
+pub returns-in-Ok : goal.returns-in-Ok
+returns-in-Ok c =
     let w = c.write_plan in
-    let r = c.read_plan-read in
-    read_copies _ _ r.result r.ensures.answers _ w.result _ c.in-Nothing.is w.ensures.answer w.ensures.bytes c.written.ensures
+    read_copies _ _ (lines c.in-Ok.p) _ (numbered w.result) _ c.in-Ok.ensures w.ensures.answer w.ensures.bytes c.answered.ensures
+
+pub returns-in-Err : goal.returns-in-Err
+returns-in-Err c = refused_copies _ _ _ _ c.in-Err.ensures c.answered-in-Err.ensures

@@ -1,5 +1,4 @@
 -- `c_words::word_at` meets its contract: word i stands in the four bytes from i * 4 on.
-use mathlib.Core.Path.{sym, ◌∙◌}
 use Prim.Native.Nat.{◌+◌, ◌*◌, ◌≤◌}
 use native.Mathlib.Omega.{arith}
 use lib.ListN.{length}
@@ -36,4 +35,4 @@ pub bounds-bytes-at-4 : goal.bounds-bytes-at-4
 bounds-bytes-at-4 c = omega (arith, room (goal.at.bounds-bytes-at-4 c).Start)
 
 pub returns : goal.returns
-returns c = c.word_of.ensures ∙ sym (words_at c.args.bytes.now c.args.i c.requires)
+returns c = omega (arith, c.from_le_bytes.ensures, words_at c.args.bytes.now c.args.i c.requires)

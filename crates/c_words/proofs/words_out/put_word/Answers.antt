@@ -1,17 +1,9 @@
--- `c_words::put_word` meets its contract: four stores are a run of stores.
-use native.Mathlib.Omega.{arith}
-use lib.ListN.{length-set}
+-- `c_words::put_word` meets its contract: a copy over a part of the lent bytes is a run of stores.
+use Rattle.std.proofs.Common.{◌∙◌, arith}
+use Rattle.c_words.specs.Bytes.{word_bytes}
 use Rattle.c_words.proofs.Writing.{store_word}
 use Rattle.c_words.proofs.words_out.put_word.Goals as goal
 
-pub bounds-out-at-2 : goal.bounds-out-at-2
-bounds-out-at-2 c = simp length-set (omega arith)
-
-pub bounds-out-at-3 : goal.bounds-out-at-3
-bounds-out-at-3 c = simp length-set (omega arith)
-
-pub bounds-out-at-4 : goal.bounds-out-at-4
-bounds-out-at-4 c = simp length-set (omega arith)
-
 pub returns : goal.returns
-returns c = store_word c.args.out.now c.args.at c.args.word
+unfolding word_bytes
+returns c = store_word c.args.out.now c.args.at _ c.args.word _ (c.copy_from_slice.ensures.after ∙ c.to_le_bytes.ensures) (omega arith) c.requires

@@ -4,14 +4,13 @@ use lib.ListN.{length}
 use Rattle.lists.specs.Front.{front}
 use Rattle.model.specs.Refusals.{Refusal}
 use Rattle.model.specs.ListingText.{check_prints}
-use Rattle.check_program.specs.Answer.{refusal_of}
 use Rattle.check_program.proofs.Printing.{says}
 use Rattle.check_program.proofs.printed.print_check.Goals as goal
 
 pub returns : goal.returns
 returns c =
-    let k = c.check_input-checked.ensures in
-    let q = ap refusal_of k.answer ∙ says k.refusal in
+    let k = c.check_input.ensures in
+    let q = says c.check_input.result k.refusal k.answer in
     record {
       refusal = k.refusal;
       of_input = k.of_texts;

@@ -1,10 +1,7 @@
 -- `checker_listing::all_filled` meets its contract: before turn k the first k frames are marked.
-use Prim.Native.Nat.{◌≤◌, ◌-◌}
+use Prim.Native.Nat.{◌≤◌}
 use Rattle.checker_listing.specs.FrameList.{AllMarked}
 use Rattle.checker_listing.proofs.frames.all_filled.Given as goal
 
 abbrev pub invariant-loop-k : goal.invariant-loop-k
 invariant-loop-k l = (l.k ≤ l.count) × AllMarked l.filled l.k
-
-abbrev pub decreases-loop-k : goal.decreases-loop-k
-decreases-loop-k l = l.count - l.k

@@ -36,7 +36,7 @@ same_counts-requires c =
     let n = (counts c.args.p).its_slots in (
       omega (arith, n, (good (lines c.args.p) (((sound_iff (lines c.args.p) c.args.table.now c.requires.fact_1.0).0 c.requires.fact_1.1).0)).few_slots),
       c.requires.fact_2.2,
-      plan_counts_long (lines c.args.p) _ n c.count_pass_overs.ensures (((sound_iff (lines c.args.p) c.args.table.now c.requires.fact_1.0).0 c.requires.fact_1.1).0) (ap length c.no_counts-counts.ensures ∙ length-replicate {A = ℕ} NODES 0),
+      plan_counts_long (lines c.args.p) _ n c.count_pass_overs.ensures (((sound_iff (lines c.args.p) c.args.table.now c.requires.fact_1.0).0 c.requires.fact_1.1).0) (ap length c.zeros-counts.ensures ∙ length-replicate {A = ℕ} NODES 0),
     )
 
 pub returns-then-not-same_counts : goal.returns-then-not-same_counts

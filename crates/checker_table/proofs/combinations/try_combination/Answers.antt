@@ -1,6 +1,7 @@
 -- `checker_table::try_combination` meets its contract: what is found is put together of the met entries, the due rows
 -- and the tests on them.
 use mathlib.Core.Path.{sym, ap, subst, ◌∙◌}
+use native.Mathlib.Omega.{arith}
 use Rattle.plan_index.specs.Index.{laid}
 use Rattle.log_rows.specs.Rows.{Rows}
 use Rattle.plan_layout.proofs.Bounds.{bounded}
@@ -31,7 +32,7 @@ pub returns-then-miscounts : goal.returns-then-miscounts
 returns-then-miscounts c =
     let a = c.args in
     let b = laid a.index.now in
-    found_14 b a.table.now a.c c.met_rows-m.ensures.0 c.due_rows-due.ensures.0 c.rows_of.ensures.0 (sym c.miscounts.ensures ∙ c.if-miscounts.true)
+    (found_14 b a.table.now a.c c.met_rows-m.ensures.0 c.due_rows-due.ensures.0 c.rows_of.ensures.0 (sym c.miscounts.ensures ∙ c.if-miscounts.true), omega arith)
 
 pub first_found-first-requires : goal.first_found-first-requires
 first_found-first-requires c =
@@ -49,6 +50,8 @@ processes_of-requires c =
 pub returns : goal.returns
 returns c =
     let a = c.args in
-    let b = laid a.index.now in
-    found_later b a.table.now a.c c.met_rows-m.ensures.0 c.due_rows-due.ensures.0 c.rows_of.ensures.0 (sym c.miscounts.ensures ∙ c.if-miscounts.false)
-    (rows_made b a.table.now a.c c.empty_rows-rows.ensures c.due_rows-due.ensures.1 c.met_rows-m.ensures.1) c.processes_of.ensures.0 c.first_found-first.ensures c.last_end-delay.ensures
+    let b = laid a.index.now in (
+      found_later b a.table.now a.c c.met_rows-m.ensures.0 c.due_rows-due.ensures.0 c.rows_of.ensures.0 (sym c.miscounts.ensures ∙ c.if-miscounts.false)
+          (rows_made b a.table.now a.c c.empty_rows-rows.ensures c.due_rows-due.ensures.1 c.met_rows-m.ensures.1) c.processes_of.ensures.0 c.first_found-first.ensures.0 c.last_end-delay.ensures,
+      c.first_found-first.ensures.1,
+    )

@@ -9,7 +9,7 @@ use Rattle.plan_layout.proofs.Bounds.{bounded}
 use Rattle.checker_rows.specs.MetRows.{Small}
 use Rattle.checker_rows.proofs.DueMade.{row_order}
 use Rattle.checker_rules.proofs.FormOfModel.{formed_told}
-use Rattle.checker_table.specs.declared.verdict.Found.{Found}
+use Rattle.checker_table.specs.Finding.{Finding}
 use Rattle.checker_table.specs.Combinations.{found_all, Tabled}
 use Rattle.checker_table.specs.Verdict.{verdict_by}
 use Rattle.checker_table.proofs.FirstAnswers.{answer_12, answer_13}
@@ -68,6 +68,6 @@ returns c =
     } in
     let b = laid c.of_plan-index.result in
     c.verdict.ensures
-    ∙ ap (λ (f : Found). verdict_by f a.delay) (c.try_all.ensures ∙ ap (λ (n : ℕ). found_all b a.table.now n) (c.combinations_of-combinations.ensures.0 ∙ ap (λ (n : ℕ). 2 ^ n) c.conditions_of.ensures.0))
+    ∙ ap (λ (f : Finding). verdict_by f a.delay) (c.try_all.ensures.0 ∙ ap (λ (n : ℕ). found_all b a.table.now n) (c.combinations_of-combinations.ensures.0 ∙ ap (λ (n : ℕ). 2 ^ n) c.conditions_of.ensures.0))
     ∙ all_verdict b a.table.now t a.delay
     ∙ answer_later (lines a.p) a.table.now a.delay c.if-table-ne0.false t.formed

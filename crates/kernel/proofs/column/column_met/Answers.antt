@@ -1,5 +1,5 @@
 -- `kernel::column_met` meets its contract: its two tests on words are the test on each bit.
-use mathlib.Core.Path.{sym, ◌∙◌}
+use Rattle.std.proofs.Common.{sym, ◌∙◌}
 use borrow.Author.Tests.{eq-eqb, ne_eqb}
 use Rattle.kernel.proofs.ColumnBits.{met_32}
 use Rattle.kernel.proofs.column.column_met.Goals as goal
@@ -9,7 +9,8 @@ returns-then-known-heard c =
     let a = c.args in
     sym (met_32 a.known a.values a.heard a.told c.ranges.known.fits ∙ rw (eq-eqb _ _ c.if-known-heard.true))
 
-pub returns : goal.returns
-returns c =
+pub returns-else-known-heard : goal.returns-else-known-heard
+returns-else-known-heard c =
     let a = c.args in
-    sym (met_32 a.known a.values a.heard a.told c.ranges.known.fits ∙ rw (ne_eqb _ _ c.if-known-heard.false))
+    let unheard = ne_eqb _ _ c.if-known-heard.false in
+    unheard ∙ sym (met_32 a.known a.values a.heard a.told c.ranges.known.fits ∙ rw unheard)

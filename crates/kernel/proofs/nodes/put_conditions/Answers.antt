@@ -58,9 +58,6 @@ offset_bounds-node-first c = omega (arith, (below c.before.before.before.before)
 pub bounds-node-first : goal.bounds-node-first
 bounds-node-first c = omega (arith, (below c.before.before.before.before).1)
 
-pub overflow_add-i : goal.overflow_add-i
-overflow_add-i c = omega (arith, (below c.before.before.before.before).0)
-
 pub loop-i-preserved : goal.loop-i-preserved
 loop-i-preserved c =
     let l = c.loop-i in

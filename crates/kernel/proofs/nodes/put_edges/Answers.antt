@@ -53,9 +53,6 @@ offset_bounds-node-p c = omega (arith, (below c.before.before.before.before).1)
 pub bounds-node-p : goal.bounds-node-p
 bounds-node-p c = omega (arith, (below c.before.before.before.before).1)
 
-pub overflow_add-i : goal.overflow_add-i
-overflow_add-i c = omega (arith, (below c.before.before.before.before).0)
-
 pub loop-i-preserved : goal.loop-i-preserved
 loop-i-preserved c =
     let l = c.loop-i in

@@ -31,9 +31,6 @@ offset_bounds-node-i c = omega (arith, below c.before)
 pub bounds-node-i : goal.bounds-node-i
 bounds-node-i c = omega (arith, below c.before.before)
 
-pub overflow_add-i : goal.overflow_add-i
-overflow_add-i c = omega (arith, below c.before.before)
-
 pub loop-i-preserved : goal.loop-i-preserved
 loop-i-preserved c =
     let l = c.loop-i in

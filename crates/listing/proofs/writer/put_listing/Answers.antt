@@ -35,17 +35,17 @@ listed p e k d passed table list w₀ l zs r same at₀ e₁ e₂ e₃ i z =
     rw (← same, ← at₀) (put_then (part e₁) (put_then (part e₂) (rw (i, z) (part e₃))))
 
 pub totals-requires : goal.totals-requires
-totals-requires c = (fits_first _ _ (whole c.args.processes c.args.edges c.args.conditions c.args.delay c.args.passed.now c.args.table.now c.args.list.now c.start-w.result (ap (λ x. x.now) c.start-w.ensures.0) c.start-w.ensures.1 c.requires.0), c.requires.1)
+totals-requires c = (fits_first _ _ (whole c.args.counts.processes c.args.counts.edges c.args.counts.conditions c.args.delay c.args.passed.now c.args.table.now c.args.list.now c.start-w.result (ap (λ x. x.now) c.start-w.ensures.0) c.start-w.ensures.1 c.requires.0), c.requires.1)
 
 pub entries-requires : goal.entries-requires
-entries-requires c = fits_first _ _ (behind_totals c.args.processes c.args.edges c.args.conditions c.args.delay c.args.passed.now c.args.table.now c.args.list.now c.start-w.result (ap (λ x. x.now) c.start-w.ensures.0) c.start-w.ensures.1 c.requires.0 c.totals.ensures)
+entries-requires c = fits_first _ _ (behind_totals c.args.counts.processes c.args.counts.edges c.args.counts.conditions c.args.delay c.args.passed.now c.args.table.now c.args.list.now c.start-w.result (ap (λ x. x.now) c.start-w.ensures.0) c.start-w.ensures.1 c.requires.0 c.totals.ensures)
 
 pub frames-requires : goal.frames-requires
 frames-requires c =
-    fits_rest (part c.entries.ensures) _ (behind_totals c.args.processes c.args.edges c.args.conditions c.args.delay c.args.passed.now c.args.table.now c.args.list.now c.start-w.result (ap (λ x. x.now) c.start-w.ensures.0) c.start-w.ensures.1 c.requires.0 c.totals.ensures)
+    fits_rest (part c.entries.ensures) _ (behind_totals c.args.counts.processes c.args.counts.edges c.args.counts.conditions c.args.delay c.args.passed.now c.args.table.now c.args.list.now c.start-w.result (ap (λ x. x.now) c.start-w.ensures.0) c.start-w.ensures.1 c.requires.0 c.totals.ensures)
 
 pub returns : goal.returns
 returns c =
     let names = sym (ap (λ x. x.ghost_name) c.start-w.ensures.0) ∙ name _ _ c.totals.ensures ∙ name _ _ c.entries.ensures ∙ name _ _ c.frames.ensures in
-    listed c.args.processes c.args.edges c.args.conditions c.args.delay c.args.passed.now c.args.table.now c.args.list.now _ _ _ _ (ap (λ x. x.now) c.start-w.ensures.0) c.start-w.ensures.1 c.totals.ensures c.entries.ensures
+    listed c.args.counts.processes c.args.counts.edges c.args.counts.conditions c.args.delay c.args.passed.now c.args.table.now c.args.list.now _ _ _ _ (ap (λ x. x.now) c.start-w.ensures.0) c.start-w.ensures.1 c.totals.ensures c.entries.ensures
     c.frames.ensures c.filled.ensures.0 (c.out-1.given.1.1 names ∙ c.filled.ensures.1)

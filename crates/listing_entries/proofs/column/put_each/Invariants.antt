@@ -5,8 +5,5 @@ use Rattle.listing_count.specs.Parts.{values_from}
 use Rattle.listing_bytes.specs.Going.{Going}
 use Rattle.listing_entries.proofs.column.put_each.Given as goal
 
-abbrev pub invariant-loop-x : goal.invariant-loop-x
-invariant-loop-x l = (l.k + l.x ≤ l.known) × Going l.initial.out l.out l.at l.end (values_from l.conditions l.known l.values 0) (values_from (l.conditions - l.k) l.x l.v l.k)
-
-abbrev pub decreases-loop-x : goal.decreases-loop-x
-decreases-loop-x l = l.x
+abbrev pub invariant-loop-k : goal.invariant-loop-k
+invariant-loop-k l = (l.k + l.x ≤ l.known) × Going l.initial.out l.out l.at l.end (values_from l.conditions l.known l.values 0) (values_from (l.conditions - l.k) l.x l.v l.k)

@@ -11,26 +11,26 @@ pub put_begin-requires : goal.put_begin-requires
 put_begin-requires c =
     fits_most c.requires (simp length-append (omega (arith, decimal_length 9 c.args.row (omega arith))))
 
-pub returns-then-number-processes : goal.returns-then-number-processes
-returns-then-number-processes c =
-    rw (begin_start c.args.processes c.args.edges c.args.conditions c.args.row (omega arith)) c.put_begin.ensures
+pub returns-then-number-counts : goal.returns-then-number-counts
+returns-then-number-counts c =
+    rw (begin_start c.args.counts.processes c.args.counts.edges c.args.counts.conditions c.args.row (omega arith)) c.put_begin.ensures
 
-pub put_begin-requires-then-edge-edges : goal.put_begin-requires-then-edge-edges
-put_begin-requires-then-edge-edges c =
-    fits_most c.requires (simp length-append (omega (arith, decimal_length 9 (c.args.row - c.args.processes) (omega arith))))
+pub put_begin-requires-then-edge-counts : goal.put_begin-requires-then-edge-counts
+put_begin-requires-then-edge-counts c =
+    fits_most c.requires (simp length-append (omega (arith, decimal_length 9 (c.args.row - c.args.counts.processes) (omega arith))))
 
-pub returns-then-edge-edges : goal.returns-then-edge-edges
-returns-then-edge-edges c =
-    rw (begin_send c.args.processes c.args.edges c.args.conditions c.args.row (omega arith) (omega arith)) c.put_begin-then-edge-edges.ensures
+pub returns-then-edge-counts : goal.returns-then-edge-counts
+returns-then-edge-counts c =
+    rw (begin_send c.args.counts.processes c.args.counts.edges c.args.counts.conditions c.args.row (omega arith) (omega arith)) c.put_begin-then-edge-counts.ensures
 
-pub put_begin-requires-then-condition-conditions : goal.put_begin-requires-then-condition-conditions
-put_begin-requires-then-condition-conditions c =
-    fits_most c.requires (simp length-append (omega (arith, decimal_length 9 (c.args.row - c.args.processes - c.args.edges) (omega arith))))
+pub put_begin-requires-then-condition-counts : goal.put_begin-requires-then-condition-counts
+put_begin-requires-then-condition-counts c =
+    fits_most c.requires (simp length-append (omega (arith, decimal_length 9 (c.args.row - c.args.counts.processes - c.args.counts.edges) (omega arith))))
 
-pub returns-then-condition-conditions : goal.returns-then-condition-conditions
-returns-then-condition-conditions c =
-    rw (begin_tell c.args.processes c.args.edges c.args.conditions c.args.row (omega arith) (omega arith) (omega arith)) c.put_begin-then-condition-conditions.ensures
+pub returns-then-condition-counts : goal.returns-then-condition-counts
+returns-then-condition-counts c =
+    rw (begin_tell c.args.counts.processes c.args.counts.edges c.args.counts.conditions c.args.row (omega arith) (omega arith) (omega arith)) c.put_begin-then-condition-counts.ensures
 
 pub returns : goal.returns
 returns c =
-    rw (begin_none c.args.processes c.args.edges c.args.conditions c.args.row (omega arith) (omega arith) (omega arith)) (put_none _ _)
+    rw (begin_none c.args.counts.processes c.args.counts.edges c.args.counts.conditions c.args.row (omega arith) (omega arith) (omega arith)) (put_none _ _)

@@ -27,7 +27,7 @@ loop-i-smaller c =
     let l = c.loop-i in
     let a = c.args in
     let r = c.put_row-row.ensures in
-    let s = same_within a.processes a.edges a.conditions a.table.now l.i (omega arith) in
+    let s = same_within a.counts.processes a.counts.edges a.counts.conditions a.table.now l.i (omega arith) in
     omega (arith, r.words, s.0, s.1)
 
 pub loop-i-preserved : goal.loop-i-preserved
@@ -35,7 +35,7 @@ loop-i-preserved c =
     let l = c.loop-i in
     let a = c.args in
     let r = c.put_row-row.ensures in
-    let s = same_within a.processes a.edges a.conditions a.table.now l.i (omega arith) in
+    let s = same_within a.counts.processes a.counts.edges a.counts.conditions a.table.now l.i (omega arith) in
     (omega (arith, r.words, s.1), going_on l.invariant.1 r.going)
 
 pub shape_of-out : goal.shape_of-out
@@ -45,4 +45,4 @@ pub returns : goal.returns
 returns c =
     let l = c.loop-i in
     let a = c.args in
-    going_end l.invariant.1 (entries_end a.table.now l.i (entry_text a.processes a.edges a.conditions) (λ h. omega arith))
+    going_end l.invariant.1 (entries_end a.table.now l.i (entry_text a.counts.processes a.counts.edges a.counts.conditions) (λ h. omega arith))

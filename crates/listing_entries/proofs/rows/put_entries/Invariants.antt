@@ -8,7 +8,7 @@ use Rattle.listing_entries.proofs.rows.put_entries.Given as goal
 
 abbrev pub invariant-loop-i : goal.invariant-loop-i
 invariant-loop-i l =
-    (l.i ≤ length l.table) × Going l.initial.out l.out l.at l.end (entries_text l.processes l.edges l.conditions l.table) (entries_text l.processes l.edges l.conditions (drop l.i l.table))
+    (l.i ≤ length l.table) × Going l.initial.out l.out l.at l.end (entries_text l.counts.processes l.counts.edges l.counts.conditions l.table) (entries_text l.counts.processes l.counts.edges l.counts.conditions (drop l.i l.table))
 
 abbrev pub decreases-loop-i : goal.decreases-loop-i
 decreases-loop-i l = length l.table - l.i

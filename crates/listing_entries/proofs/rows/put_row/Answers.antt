@@ -14,27 +14,27 @@ use Rattle.listing_entries.proofs.rows.put_row.Goals as goal
 pub returns-then-long-eq0 : goal.returns-then-long-eq0
 returns-then-long-eq0 c =
     let ws = c.args.table.now in
-    let none : length (begin_of c.args.processes c.args.edges c.args.conditions (get_or ws c.args.first 0)) ≡ 0 = omega (arith, c.put_first-long.ensures.count, c.if-long-eq0.true) in
-    let e = run_none c.args.processes c.args.edges c.args.conditions ws c.args.first c.requires.0 none in
-    let n = same_none c.args.processes c.args.edges c.args.conditions ws c.args.first none in
+    let none : length (begin_of c.args.counts.processes c.args.counts.edges c.args.counts.conditions (get_or ws c.args.first 0)) ≡ 0 = omega (arith, c.put_first-long.ensures.count, c.if-long-eq0.true) in
+    let e = run_none c.args.counts.processes c.args.counts.edges c.args.counts.conditions ws c.args.first c.requires.0 none in
+    let n = same_none c.args.counts.processes c.args.counts.edges c.args.counts.conditions ws c.args.first none in
     record { words = omega (arith, n); going = rw e (going_start _ _ _) }
 
 pub slice_bounds-begin-end : goal.slice_bounds-begin-end
 slice_bounds-begin-end c =
     let a = c.args in
-    let most = begin_most a.processes a.edges a.conditions (get_or a.table.now a.first 0) (omega (arith, c.shared_slice_known-2-1.given a.first)) in
+    let most = begin_most a.counts.processes a.counts.edges a.counts.conditions (get_or a.table.now a.first 0) (omega (arith, c.type_inv.table a.first)) in
     omega (arith, c.put_first-long.ensures.count, most)
 
 pub slice_bounds-put_runs-end : goal.slice_bounds-put_runs-end
 slice_bounds-put_runs-end c =
     let a = c.args in
-    let most = begin_most a.processes a.edges a.conditions (get_or a.table.now a.first 0) (omega (arith, c.shared_slice_known-2-1.given a.first)) in
+    let most = begin_most a.counts.processes a.counts.edges a.counts.conditions (get_or a.table.now a.first 0) (omega (arith, c.type_inv.table a.first)) in
     sym (length-take-le _ _ (put_front c.put_first-long.ensures (omega (arith, most))).0)
 
 pub put_runs-requires : goal.put_runs-requires
 put_runs-requires c =
     let a = c.args in
-    let most = begin_most a.processes a.edges a.conditions (get_or a.table.now a.first 0) (omega (arith, c.shared_slice_known-2-1.given a.first)) in
+    let most = begin_most a.counts.processes a.counts.edges a.counts.conditions (get_or a.table.now a.first 0) (omega (arith, c.type_inv.table a.first)) in
     let h = put_front c.put_first-long.ensures (omega (arith, most)) in
     let pre = c.requires in
     (pre.0, record { whole = h.1; some = λ none. c.if-long-eq0.false (sym (length-take-le _ _ h.0) ∙ none) }, pre.1, pre.2)
@@ -42,4 +42,4 @@ put_runs-requires c =
 pub returns : goal.returns
 returns c =
     let a = c.args in
-    rw (same_some a.processes a.edges a.conditions a.table.now a.first (λ none. c.if-long-eq0.false (omega (arith, c.put_first-long.ensures.count, none)))) c.put_runs.ensures
+    rw (same_some a.counts.processes a.counts.edges a.counts.conditions a.table.now a.first (λ none. c.if-long-eq0.false (omega (arith, c.put_first-long.ensures.count, none)))) c.put_runs.ensures

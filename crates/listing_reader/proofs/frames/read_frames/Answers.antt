@@ -3,8 +3,7 @@ use Prim.Native.Nat.{◌≤◌, ◌<◌}
 use mathlib.Core.List.{[], ◌∷◌, ◌++◌}
 use native.Mathlib.Omega.{arith}
 use Rattle.limits.specs.Limits.{PRINTEDFRAMES}
-use Rattle.text_scanner.proofs.AnswerCases.{told}
-use Rattle.listing_scanner.specs.Lines.{frame, frame_of}
+use Rattle.listing_scanner.specs.Lines.{frame_of}
 use Rattle.listing_reader.proofs.LinesSoFar.{frames_law, begun, as_long, advanced, more}
 use Rattle.listing_reader.proofs.RunsEnded.{frames_over, frames_too_many}
 use Rattle.listing_reader.proofs.frames.read_frames.Goals as goal
@@ -15,25 +14,24 @@ loop-f-init c = ([], begun frames_law c.requires.0)
 pub frame_line-requires : goal.frame_line-requires
 frame_line-requires c = c.loop-f.invariant.1.within
 
-pub returns-in_default : goal.returns-in_default
-returns-in_default c =
-    frames_over c.loop-f.invariant.1 c.requires.1 (told frame c.in_default.is c.frame_line.ensures)
+pub returns : goal.returns
+returns c =
+    frames_over c.loop-f.invariant.1 c.requires.1 c.in_default.ensures
 
 pub returns-then-count-ge-PRINTEDFRAMES : goal.returns-then-count-ge-PRINTEDFRAMES
 returns-then-count-ge-PRINTEDFRAMES c =
     let full : PRINTEDFRAMES ≤ c.loop-f.count = omega (arith, c.if-count-ge-PRINTEDFRAMES.true) in
-    frames_too_many c.loop-f.invariant.1 (frame_of c.in-Got.f) (told frame c.in-Got.is c.frame_line.ensures) full
+    frames_too_many c.loop-f.invariant.1 (frame_of c.in-Some.f) c.in-Some.ensures full
 
 pub loop-f-preserved : goal.loop-f-preserved
 loop-f-preserved c =
     let room : c.loop-f.count < PRINTEDFRAMES = omega (arith, c.if-count-ge-PRINTEDFRAMES.false) in
-    let x = frame_of c.in-Got.f in
-    (c.loop-f.invariant.0 ++ (x ∷ []), more frames_law c.loop-f.invariant.1 x (told frame c.in-Got.is c.frame_line.ensures) room c.put_frame.ensures)
+    let x = frame_of c.in-Some.f in
+    (c.loop-f.invariant.0 ++ (x ∷ []), more frames_law c.loop-f.invariant.1 x c.in-Some.ensures room c.put_frame.ensures)
 
 pub loop-f-smaller : goal.loop-f-smaller
 loop-f-smaller c =
-    let e = told frame c.in-Got.is c.frame_line.ensures in
-    omega (arith, advanced frames_law c.loop-f.invariant.1 (frame_of c.in-Got.f) e, e.within)
+    omega (arith, advanced frames_law c.loop-f.invariant.1 (frame_of c.in-Some.f) c.in-Some.ensures, c.in-Some.ensures.within)
 
 pub put_frame-requires : goal.put_frame-requires
 put_frame-requires c =

@@ -3,17 +3,15 @@ use Prim.Native.Nat.{◌≤◌}
 use native.Mathlib.Omega.{arith}
 use Rattle.limits.specs.Limits.{CONDITIONS}
 use Rattle.listing_grammar.specs.Parse.{column_at}
-use Rattle.text_scanner.specs.Place.{next}
-use Rattle.text_scanner.proofs.AnswerCases.{told}
 use Rattle.listing_scanner.proofs.ColumnSteps.{begun, stepped, over, bit_most}
 use Rattle.listing_scanner.proofs.columns.column.Goals as goal
 
-pub returns-in_default : goal.returns-in_default
+pub returns-in_err-first : goal.returns-in_err-first
 unfolding column_at
-returns-in_default c = record { within = tt; same = rw (← (told next c.in_default.is c.word.ensures).same) }
+returns-in_err-first c = rw c.from_residual.ensures (record { within = tt; same = rw (← c.in_err-first.ensures.same) })
 
 pub loop-k-init : goal.loop-k-init
-loop-k-init c = begun _ _ _ (told next c.in-Got.is c.word.ensures).within
+loop-k-init c = begun _ _ _ c.in_ok-first.ensures.within
 
 pub step-s-requires : goal.step-s-requires
 step-s-requires c =
@@ -33,18 +31,14 @@ loop-k-preserved c = stepped _ _ _ _ _ _ _ c.loop-k-test.true c.loop-k.invariant
 pub word-requires-2 : goal.word-requires-2
 word-requires-2 c = c.loop-k.invariant.within
 
-pub returns-in_default-word : goal.returns-in_default-word
+pub returns-in_err-s : goal.returns-in_err-s
 unfolding column_at
-returns-in_default-word c =
-    let bracket = told next c.in_default-word.is c.word-2.ensures in
-    let first = told next c.in-Got.is c.word.ensures in
+returns-in_err-s c =
     let done : c.args.conditions ≤ c.loop-k.k = omega arith in
-    record { within = tt; same = rw (← first.same, over _ _ _ _ _ _ done c.loop-k.invariant, ← bracket.same) }
+    rw c.from_residual-in_err-s.ensures (record { within = tt; same = rw (← c.in_ok-first.ensures.same, over _ _ _ _ _ _ done c.loop-k.invariant, ← c.in_err-s.ensures.same) })
 
 pub returns : goal.returns
 unfolding column_at
 returns c =
-    let bracket = told next c.in-Got-word.is c.word-2.ensures in
-    let first = told next c.in-Got.is c.word.ensures in
     let done : c.args.conditions ≤ c.loop-k.k = omega arith in
-    record { within = bracket.within; same = rw (← first.same, over _ _ _ _ _ _ done c.loop-k.invariant, ← bracket.same) }
+    record { within = c.in_ok-s.ensures.within; same = rw (← c.in_ok-first.ensures.same, over _ _ _ _ _ _ done c.loop-k.invariant, ← c.in_ok-s.ensures.same) }

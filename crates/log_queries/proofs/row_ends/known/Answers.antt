@@ -27,7 +27,7 @@ pub with_bit-mask-requires : goal.with_bit-mask-requires
 with_bit-mask-requires c =
     let a = c.args in
     let k = c.loop-k.k in
-    rw c.loop-k.invariant.1 (built_small (λ j. came_by a.rows.now a.u (a.base + j)) k (a.conditions - k) 5 (omega arith))
+    rw c.loop-k.invariant.1 (built_small (λ j. came_by a.rows.now a.u (a.base + j)) k (a.conditions - k) 7 (omega arith))
 
 pub loop-k-preserved : goal.loop-k-preserved
 unfolding came_by

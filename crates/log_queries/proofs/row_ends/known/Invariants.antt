@@ -8,6 +8,3 @@ use Rattle.log_queries.proofs.row_ends.known.Given as goal
 
 abbrev pub invariant-loop-k : goal.invariant-loop-k
 invariant-loop-k l = (l.k ≤ l.conditions) × (l.mask ≡ mask_from (λ j. came_by l.rows l.u (l.base + j)) l.k (l.conditions - l.k))
-
-abbrev pub decreases-loop-k : goal.decreases-loop-k
-decreases-loop-k l = l.k

@@ -16,14 +16,7 @@ loop-i-init c =
 pub loop-i-preserved : goal.loop-i-preserved
 loop-i-preserved c =
     let a = c.args in
-    most_taken (λ i. get_or (rows_of a.rows.now).comes i 0) (λ k. true) a.processes c.loop-i.i c.loop-i.most c.loop-i-test.true refl c.loop-i.invariant (c.greater-most.ensures ∙ ap (max c.loop-i.most) c.comes_of.ensures)
-
-pub returns-then-most-eq0 : goal.returns-then-most-eq0
-unfolding last_end_by
-returns-then-most-eq0 c =
-    let a = c.args in
-    let q = most_whole (λ i. get_or (rows_of a.rows.now).comes i 0) a.processes c.loop-i.i c.loop-i.most c.loop-i-test.false c.loop-i.invariant in
-    omega arith
+    most_taken (λ i. get_or (rows_of a.rows.now).comes i 0) (λ k. true) a.processes c.loop-i.i c.loop-i.most c.loop-i-test.true refl c.loop-i.invariant (c.max-most.ensures ∙ ap (max c.loop-i.most) c.comes_of.ensures)
 
 pub returns : goal.returns
 unfolding last_end_by

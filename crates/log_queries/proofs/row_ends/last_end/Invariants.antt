@@ -1,6 +1,5 @@
 -- `log_queries::last_end` meets its contract: the greatest so far and what is left give the whole.
 use mathlib.Core.Bool.{true}
-use Prim.Native.Nat.{◌-◌}
 use lib.ListN.{get_or}
 use Rattle.lists.proofs.Greatest.{Most}
 use Rattle.log_rows.specs.Rows.{rows_of}
@@ -9,6 +8,3 @@ use Rattle.log_queries.proofs.row_ends.last_end.Given as goal
 abbrev pub invariant-loop-i : goal.invariant-loop-i
 invariant-loop-i l =
     Most (λ i. get_or (rows_of l.rows).comes i 0) (λ k. true) l.processes l.i l.most
-
-abbrev pub decreases-loop-i : goal.decreases-loop-i
-decreases-loop-i l = l.processes - l.i

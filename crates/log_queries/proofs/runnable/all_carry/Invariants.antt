@@ -1,6 +1,5 @@
 -- `log_queries::all_carry` meets its contract: the edges from place j on give the whole answer.
 use mathlib.Core.Path.{◌≡◌}
-use Prim.Native.Nat.{◌-◌}
 use Rattle.lists.specs.Lists.{all}
 use Rattle.plan_index.specs.Index.{laid}
 use Rattle.log_rows.specs.Rows.{rows_of}
@@ -10,6 +9,3 @@ use Rattle.log_queries.proofs.runnable.all_carry.Given as goal
 abbrev pub invariant-loop-j : goal.invariant-loop-j
 invariant-loop-j l =
     all (may_carry (laid l.index) (rows_of l.rows) l.u) (edges_at (laid l.index) l.a l.b) ≡ all (may_carry (laid l.index) (rows_of l.rows) l.u) (edges_at (laid l.index) l.j l.b)
-
-abbrev pub decreases-loop-j : goal.decreases-loop-j
-decreases-loop-j l = l.b - l.j

@@ -12,6 +12,7 @@ use Rattle.log_rows.specs.Rows.{Rows, rows_of, with_run, put_run}
 use Rattle.log_queries.specs.Reading.{bit, may_run_by}
 use Rattle.log_queries.specs.Queries.{may_run_in, running}
 use Rattle.log_queries.proofs.runnable.may_run.Invariants.{runnable}
+use Rattle.log_queries.proofs.Bits.{bit_from}
 use Rattle.log_queries.proofs.runnable.may_run.Goals as goal
 
 module _ (b : PlanIndex) (u : ℕ) where
@@ -36,7 +37,7 @@ pub loop-i-preserved : goal.loop-i-preserved
 loop-i-preserved c =
     let s = c.before.args in
     let z = rows_of c.clear_run.new.rows in
-    (omega arith, c.put_run.ensures ∙ next (laid s.index.now) s.u z c.loop-i.i c.loop-i.invariant.1 c.number-x.ensures.0 c.runs.ensures)
+    (omega arith, c.put_run.ensures ∙ next (laid s.index.now) s.u z c.loop-i.i c.loop-i.invariant.1 (c.from-x.ensures ∙ bit_from _) c.runs.ensures)
 
 pub returns : goal.returns
 returns c =

@@ -2,7 +2,7 @@
 -- run.
 use mathlib.Core.Path.{◌≡◌}
 use mathlib.Core.List.{List}
-use Prim.Native.Nat.{ℕ, ◌-◌, ◌≤◌}
+use Prim.Native.Nat.{ℕ, ◌≤◌}
 use Rattle.plan_index.specs.declared.PlanIndex.{PlanIndex}
 use Rattle.plan_index.specs.Index.{laid}
 use Rattle.log_rows.specs.Rows.{Rows, rows_of, with_run}
@@ -16,6 +16,3 @@ runnable b s u = may_run_by b.from b.knownby s.unmet s.comes u b.asany b.intofir
 abbrev pub invariant-loop-i : goal.invariant-loop-i
 invariant-loop-i l =
     (l.i ≤ l.processes) × (rows_of l.rows ≡ with_run (runnable (laid l.index) (rows_of l.initial.rows) l.u l.i) (rows_of l.initial.rows))
-
-abbrev pub decreases-loop-i : goal.decreases-loop-i
-decreases-loop-i l = l.processes - l.i

@@ -1,24 +1,15 @@
--- `plan_layout::deciders` meets its contract: before turn k the first k are filled.
+-- `plan_layout::deciders` meets its contract: the part that is copied fills the front of the zeros.
 use mathlib.Core.Path.{refl, ap, ◌∙◌}
+use Prim.Native.Nat.{◌+◌}
 use native.Mathlib.Omega.{arith}
-use Rattle.lists.specs.Lists.{fill}
-use Rattle.lists.proofs.Fill.{fill_next}
+use lib.ListN.{get_or}
+use Rattle.lists.proofs.Fill.{fill_part, fill_same}
 use Rattle.plan.specs.Tests.{at}
-use borrow.Author.Rules.{rules}
 use Rattle.plan_layout.proofs.index.deciders.Goals as goal
-
-pub loop-k-init : goal.loop-k-init
-unfolding fill
-loop-k-init c = search rules
-
-pub loop-k-preserved : goal.loop-k-preserved
-loop-k-preserved c =
-    let a = c.args in
-    let l = c.loop-k in
-    (search rules, fill_next 6 (at a.p.condition) l.k l.invariant.1 (refl))
 
 pub returns : goal.returns
 returns c =
-    let a = c.args in
-    let l = c.loop-k in
-    l.invariant.1 ∙ ap (fill 6 (at a.p.condition)) (omega arith)
+    let p = c.args.p in
+    c.copy_part.ensures
+    ∙ fill_part 6 p.condition 0 p.conditions refl c.requires (omega arith)
+    ∙ fill_same 6 (λ k. get_or p.condition (0 + k) 0) (at p.condition) p.conditions (λ k l. ap (at p.condition) (omega arith))

@@ -9,11 +9,11 @@ use Rattle.plan_layout.proofs.index_words.lay_by_bus.Goals as goal
 pub returns : goal.returns
 returns c =
     let a = c.args in
-    let rooms : length a.b.rooms ≡ 8 = c.lay_nodes-3.ensures.long in
+    let rooms : length a.b.rooms ≡ 8 = c.lay-3.ensures.long in
     record {
-      stores = c.lay_nodes-4.ensures.store ∙ ap (λ (l : List ℕ). sets l 1577 a.b.decides) (c.lay_nodes-3.ensures.store ∙ ap (λ (l : List ℕ). sets l 1569 a.b.rooms) (c.lay_nodes-2.ensures.store ∙ ap (λ (l : List ℕ). sets l 1561 a.b.lasts) c.lay_nodes.ensures.store));
-      offset_long = c.lay_nodes.ensures.long;
-      lasts_long = c.lay_nodes-2.ensures.long;
+      stores = c.lay-4.ensures.store ∙ ap (λ (l : List ℕ). sets l 1577 a.b.decides) (c.lay-3.ensures.store ∙ ap (λ (l : List ℕ). sets l 1569 a.b.rooms) (c.lay-2.ensures.store ∙ ap (λ (l : List ℕ). sets l 1561 a.b.lasts) c.lay.ensures.store));
+      offset_long = c.lay.ensures.long;
+      lasts_long = c.lay-2.ensures.long;
       rooms_long = rooms;
-      decides_long = c.lay_nodes-4.ensures.long;
+      decides_long = c.lay-4.ensures.long;
     }

@@ -9,11 +9,11 @@ pub returns : goal.returns
 returns c =
     let a = c.args in
     record {
-      stores = c.lay_edges-3.ensures.store ∙ ap (λ (l : List ℕ). sets l 1425 a.b.queue) (c.lay_starts-3.ensures.store ∙ ap (λ (l : List ℕ). sets l 1360 a.b.queuefirst) (c.lay_edges-2.ensures.store ∙ ap (λ (l : List ℕ). sets l 1232 a.b.dispatch) (c.lay_starts-2.ensures.store ∙ ap (λ (l : List ℕ). sets l 1167 a.b.dispatchfirst) (c.lay_edges.ensures.store ∙ ap (λ (l : List ℕ). sets l 1039 a.b.into) c.lay_starts.ensures.store))));
-      intofirst_long = c.lay_starts.ensures.long;
-      into_long = c.lay_edges.ensures.long;
-      dispatchfirst_long = c.lay_starts-2.ensures.long;
-      dispatch_long = c.lay_edges-2.ensures.long;
-      queuefirst_long = c.lay_starts-3.ensures.long;
-      queue_long = c.lay_edges-3.ensures.long;
+      stores = c.lay-6.ensures.store ∙ ap (λ (l : List ℕ). sets l 1425 a.b.queue) (c.lay-5.ensures.store ∙ ap (λ (l : List ℕ). sets l 1360 a.b.queuefirst) (c.lay-4.ensures.store ∙ ap (λ (l : List ℕ). sets l 1232 a.b.dispatch) (c.lay-3.ensures.store ∙ ap (λ (l : List ℕ). sets l 1167 a.b.dispatchfirst) (c.lay-2.ensures.store ∙ ap (λ (l : List ℕ). sets l 1039 a.b.into) c.lay.ensures.store))));
+      intofirst_long = c.lay.ensures.long;
+      into_long = c.lay-2.ensures.long;
+      dispatchfirst_long = c.lay-3.ensures.long;
+      dispatch_long = c.lay-4.ensures.long;
+      queuefirst_long = c.lay-5.ensures.long;
+      queue_long = c.lay-6.ensures.long;
     }

@@ -9,8 +9,8 @@ pub returns : goal.returns
 returns c =
     let a = c.args in
     record {
-      stores = c.lay_processes-3.ensures.store ∙ ap (λ (l : List ℕ). sets l 136 a.b.asany) (c.lay_processes-2.ensures.store ∙ ap (λ (l : List ℕ). sets l 72 a.b.ticks) c.lay_processes.ensures.store);
-      node_long = c.lay_processes.ensures.long;
-      ticks_long = c.lay_processes-2.ensures.long;
-      asany_long = c.lay_processes-3.ensures.long;
+      stores = c.lay-3.ensures.store ∙ ap (λ (l : List ℕ). sets l 136 a.b.asany) (c.lay-2.ensures.store ∙ ap (λ (l : List ℕ). sets l 72 a.b.ticks) c.lay.ensures.store);
+      node_long = c.lay.ensures.long;
+      ticks_long = c.lay-2.ensures.long;
+      asany_long = c.lay-3.ensures.long;
     }

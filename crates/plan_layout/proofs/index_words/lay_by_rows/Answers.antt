@@ -9,8 +9,8 @@ pub returns : goal.returns
 returns c =
     let a = c.args in
     record {
-      stores = c.lay_rows-3.ensures.store ∙ ap (λ (l : List ℕ). sets l 1981 a.b.size) (c.lay_rows-2.ensures.store ∙ ap (λ (l : List ℕ). sets l 1783 a.b.sender) c.lay_rows.ensures.store);
-      span_long = c.lay_rows.ensures.long;
-      sender_long = c.lay_rows-2.ensures.long;
-      size_long = c.lay_rows-3.ensures.long;
+      stores = c.lay-3.ensures.store ∙ ap (λ (l : List ℕ). sets l 1981 a.b.size) (c.lay-2.ensures.store ∙ ap (λ (l : List ℕ). sets l 1783 a.b.sender) c.lay.ensures.store);
+      span_long = c.lay.ensures.long;
+      sender_long = c.lay-2.ensures.long;
+      size_long = c.lay-3.ensures.long;
     }

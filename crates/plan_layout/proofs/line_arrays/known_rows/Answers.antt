@@ -20,11 +20,11 @@ pub loop-k-preserved : goal.loop-k-preserved
 loop-k-preserved c =
     let a = c.args in
     let l = c.loop-k in
-    (search rules, fill_next 128 (λ i. knownby_of (at a.e.kind i) (at a.e.from i) (a.conditionrow + at a.e.condition i)) l.k l.invariant.1 c.known_row.ensures)
+    (search rules, fill_next 128 (λ i. knownby_of (at a.kind.now i) (at a.from.now i) (a.conditionrow + at a.condition.now i)) l.k l.invariant.1 c.known_row.ensures)
 
 pub returns : goal.returns
 unfolding known_rows_by_edge
 returns c =
     let a = c.args in
     let l = c.loop-k in
-    l.invariant.1 ∙ ap (fill 128 (λ i. knownby_of (at a.e.kind i) (at a.e.from i) (a.conditionrow + at a.e.condition i))) (omega arith)
+    l.invariant.1 ∙ ap (fill 128 (λ i. knownby_of (at a.kind.now i) (at a.from.now i) (a.conditionrow + at a.condition.now i))) (omega arith)

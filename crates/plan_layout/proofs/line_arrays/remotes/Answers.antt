@@ -3,8 +3,9 @@ use mathlib.Core.Path.{ap, ◌∙◌}
 use native.Mathlib.Omega.{arith}
 use Rattle.lists.specs.Lists.{fill}
 use Rattle.lists.proofs.Fill.{fill_next}
+use Rattle.plan.specs.Numbers.{from_at, to_at}
 use Rattle.plan.specs.Tests.{at}
-use Rattle.plan_layout.specs.LineArrays.{receiver_of, remote_by_edge}
+use Rattle.plan_layout.specs.LineArrays.{receiver_of}
 use borrow.Author.Rules.{rules}
 use Rattle.plan_layout.proofs.line_arrays.remotes.Goals as goal
 
@@ -35,12 +36,10 @@ pub loop-k-preserved : goal.loop-k-preserved
 loop-k-preserved c =
     let a = c.args in
     let l = c.loop-k in
-    let told = c.receiver.ensures ∙ (λ j. receiver_of (at a.node (c.wide-i.ensures j)) (at a.node (c.wide-j.ensures j))) in
-    (search rules, fill_next 128 (λ i. receiver_of (at a.node (at a.e.from i)) (at a.node (at a.e.to i))) l.k l.invariant.1 told)
+    (search rules, fill_next 128 (λ i. receiver_of (at a.node.now (from_at a.edges.now i)) (at a.node.now (to_at a.edges.now i))) l.k l.invariant.1 (c.receiver.ensures ∙ (λ j. receiver_of (at a.node.now (c.wide-i.ensures j)) (at a.node.now (c.wide-j.ensures j)))))
 
 pub returns : goal.returns
-unfolding remote_by_edge
 returns c =
     let a = c.args in
     let l = c.loop-k in
-    l.invariant.1 ∙ ap (fill 128 (λ i. receiver_of (at a.node (at a.e.from i)) (at a.node (at a.e.to i)))) (omega arith)
+    l.invariant.1 ∙ ap (fill 128 (λ i. receiver_of (at a.node.now (from_at a.edges.now i)) (at a.node.now (to_at a.edges.now i)))) (omega arith)

@@ -4,8 +4,8 @@ use mathlib.Core.Path.{◌≡◌, refl, sym, ap, ◌∙◌}
 use mathlib.Core.Bool.{Bool, true, false}
 use mathlib.Core.Logic.{◌⊎◌, inl, inr}
 use mathlib.Core.List.{List}
-use Prim.Native.Nat.{ℕ, suc, ◌+◌, ◌^◌, ◌≤◌, ◌<◌}
-use native.Mathlib.Nat.{two-pow-succ, pow-le-pow_right}
+use Prim.Native.Nat.{ℕ, suc, ◌+◌, ◌*◌, ◌%◌, ◌^◌, ◌≤◌, ◌<◌}
+use native.Mathlib.Nat.{pow-le-pow_right}
 use native.Mathlib.Omega.{arith}
 use lib.Dec.{eqb}
 use lib.ListN.{length, get_or, set, length-set, get_or-eq_default}
@@ -56,7 +56,7 @@ bit-small k l = pow-le-pow_right {n = 2} (omega arith) {i = k} {j = 6} l
 
 pub loop-k-init : goal.loop-k-init
 unfolding fill
-loop-k-init c = (omega arith, refl, refl)
+loop-k-init c = (omega arith, refl)
 
 pub offset_bounds-node-i : goal.offset_bounds-node-i
 offset_bounds-node-i c =
@@ -82,26 +82,19 @@ overflow_add-decides c =
     let a = c.args in
     let few : l.k < 6 = omega (arith, c.loop-k-test.true, c.requires.fact_1) in
     let low : c.wide-n.result < 8 = omega (arith, c.wide-n.ensures, c.requires.fact_3 c.wide-i.result) in
-    omega (arith, l.invariant.2, bit-small l.k (omega (arith, few)), mask_at a.decider.now a.node.now l.k c.wide-n.result (at-decider a.decider.now a.node.now l.k c.wide-i.result c.wide-n.result c.wide-i.ensures c.wide-n.ensures) low l.decides _ l.invariant.1 refl c.wide-n.result low, mask-small a.decider.now a.node.now l.k c.wide-n.result (omega (arith, few)))
+    omega (arith, bit-small l.k (omega (arith, few)), mask_at a.decider.now a.node.now l.k c.wide-n.result (at-decider a.decider.now a.node.now l.k c.wide-i.result c.wide-n.result c.wide-i.ensures c.wide-n.ensures) low l.decides _ l.invariant.1 refl c.wide-n.result low, mask-small a.decider.now a.node.now l.k c.wide-n.result (omega (arith, few)))
 
 pub bounds-decides-n-in-loop-k : goal.bounds-decides-n-in-loop-k
 bounds-decides-n-in-loop-k c = omega (arith, c.wide-n.ensures, c.requires.fact_3 c.wide-i.result)
-
-pub overflow_add-bit : goal.overflow_add-bit
-overflow_add-bit c = omega (arith, c.loop-k.invariant.2, bit-small c.loop-k.k (omega (arith, c.loop-k-test.true, c.requires.fact_1)))
-
-pub loop-k-smaller : goal.loop-k-smaller
-loop-k-smaller c = omega (arith, c.loop-k-test.true)
 
 pub loop-k-preserved : goal.loop-k-preserved
 loop-k-preserved c =
     let l = c.loop-k in
     let a = c.args in
     let low : c.wide-n.result < 8 = omega (arith, c.wide-n.ensures, c.requires.fact_3 c.wide-i.result) in
-    let next : suc l.k ≡ l.k + 1 = omega arith in (
+    let bit : 1 * 2 ^ l.k % 4294967296 ≡ 2 ^ l.k = omega (arith, bit-small l.k (omega (arith, c.loop-k-test.true, c.requires.fact_1))) in (
       omega (arith, c.loop-k-test.true),
-      added a.decider.now a.node.now l.k c.wide-n.result (at-decider a.decider.now a.node.now l.k c.wide-i.result c.wide-n.result c.wide-i.ensures c.wide-n.ensures) low l.decides _ l.invariant.1 (ap (λ (x : ℕ). get_or l.decides c.wide-n.result 0 + x) l.invariant.2),
-      omega (arith, l.invariant.2, two-pow-succ l.k, ap (λ (x : ℕ). 2 ^ x) next),
+      added a.decider.now a.node.now l.k c.wide-n.result (at-decider a.decider.now a.node.now l.k c.wide-i.result c.wide-n.result c.wide-i.ensures c.wide-n.ensures) low l.decides _ l.invariant.1 (ap (λ (x : ℕ). get_or l.decides c.wide-n.result 0 + x) bit),
     )
 
 pub returns : goal.returns

@@ -1,7 +1,7 @@
 -- `plan_layout::find_unmet` meets its contract: before turn e the first e are filled, and where there is no `when` the 0
 -- stands already.
 use mathlib.Core.Path.{◌≡◌}
-use Prim.Native.Nat.{ℕ, ◌≤◌, ◌-◌}
+use Prim.Native.Nat.{ℕ, ◌≤◌}
 use Rattle.lists.specs.Lists.{fill}
 use Rattle.plan.specs.Tests.{at}
 use Rattle.plan_index.specs.declared.PlanIndex.{PlanIndex}
@@ -16,6 +16,3 @@ unmet-at b c k = unmet_of (at b.kind k) (value_of c (at b.condition k))
 
 abbrev pub invariant-loop-e : goal.invariant-loop-e
 invariant-loop-e l = (l.e ≤ l.edges) × (rows_of l.rows ≡ with_unmet (fill 128 (unmet-at (laid l.index) l.combination) l.e) (rows_of l.initial.rows))
-
-abbrev pub decreases-loop-e : goal.decreases-loop-e
-decreases-loop-e l = l.edges - l.e

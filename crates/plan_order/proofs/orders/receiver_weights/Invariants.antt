@@ -1,12 +1,11 @@
--- `plan_order::receiver_weights` meets its contract: before turn e the first e are filled.
+-- `plan_order::receiver_weights` meets its contract: before turn k the first k are filled.
 use mathlib.Core.Path.{◌≡◌}
-use Prim.Native.Nat.{◌≤◌, ◌-◌}
+use Prim.Native.Nat.{◌≤◌}
+use lib.ListN.{length}
 use Rattle.lists.specs.Lists.{fill}
+use Rattle.plan.specs.Numbers.{to_at}
 use Rattle.plan.specs.Tests.{at}
 use Rattle.plan_order.proofs.orders.receiver_weights.Given as goal
 
-abbrev pub invariant-loop-e : goal.invariant-loop-e
-invariant-loop-e l = (l.e ≤ l.edges) × (l.w ≡ fill 128 (λ k. at l.weight (at l.to k)) l.e)
-
-abbrev pub decreases-loop-e : goal.decreases-loop-e
-decreases-loop-e l = l.edges - l.e
+abbrev pub invariant-loop-k : goal.invariant-loop-k
+invariant-loop-k l = (l.k ≤ length l.edges) × (l.w ≡ fill 128 (λ k. at l.weight (to_at l.edges k)) l.k)

@@ -1,13 +1,12 @@
--- `plan_order::sender_keys` meets its contract: before turn e the first e are filled.
+-- `plan_order::sender_keys` meets its contract: before turn k the first k are filled.
 use mathlib.Core.Path.{◌≡◌}
-use Prim.Native.Nat.{◌≤◌, ◌-◌}
+use Prim.Native.Nat.{◌≤◌}
+use lib.ListN.{length}
 use Rattle.lists.specs.Lists.{fill}
+use Rattle.plan.specs.Numbers.{from_at, to_at}
 use Rattle.plan.specs.Tests.{at}
 use Rattle.plan_order.specs.Weights.{sender_key}
 use Rattle.plan_order.proofs.orders.sender_keys.Given as goal
 
-abbrev pub invariant-loop-e : goal.invariant-loop-e
-invariant-loop-e l = (l.e ≤ l.edges) × (l.key ≡ fill 128 (λ k. sender_key (at l.node (at l.from k)) (at l.node (at l.to k))) l.e)
-
-abbrev pub decreases-loop-e : goal.decreases-loop-e
-decreases-loop-e l = l.edges - l.e
+abbrev pub invariant-loop-k : goal.invariant-loop-k
+invariant-loop-k l = (l.k ≤ length l.edges) × (l.key ≡ fill 128 (λ k. sender_key (at l.node (from_at l.edges k)) (at l.node (to_at l.edges k))) l.k)

@@ -14,9 +14,9 @@ returns-then-come-u c =
     let e = c.starts.ensures in
     record { rows = rw q e.rows; nodes = rw q e.nodes; soonest = e.soonest }
 
-pub returns : goal.returns
+pub returns-else-come-u : goal.returns-else-come-u
 unfolding begun_by
-returns c =
+returns-else-come-u c =
     let e = ne_eqb _ _ c.if-come-u.false in
     let a = c.args in
     record { rows = rw e; nodes = rw e; soonest = soonest_none (laid a.index.now).slots a.u (nodes_of a.nodes.now).busy }

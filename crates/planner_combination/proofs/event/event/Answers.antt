@@ -1,6 +1,8 @@
 -- `planner_combination::event` meets its contract: its steps are those of the next event, by what is kept from event to
 -- event.
-use mathlib.Core.Path.{◌∙◌}
+use Rattle.std.specs.Prelude.{IfSome, unwrap_or}
+use mathlib.Core.Path.{◌≡◌, ◌∙◌, subst}
+use Prim.Native.Nat.{ℕ, ◌<◌}
 use Rattle.plan_index.specs.declared.PlanIndex.{PlanIndex}
 use Rattle.plan_index.specs.Index.{laid}
 use Rattle.log_rows.specs.Rows.{rows_of}
@@ -42,13 +44,13 @@ pub send_slot-s-requires : goal.send_slot-s-requires
 send_slot-s-requires c =
     let a = c.args in
     let b : PlanIndex = laid a.index.now in
-    let n = c.sending_node-n.ensures ∙ (λ i. sending_node_by (nodes_of c.begin-first.new.nodes).nextsend a.at.u (c.slots_of-slots.ensures.0 i)) in
-    (c.requires.1.low, c.requires.0.bounded, timed b c.requires.0, sendable b c.requires.0 a.at (rows_of a.rows.now) (nodes_of a.nodes.now) c.requires.1 _ c.note.ensures _ c.update_may_run.ensures _ c.changes-look.ensures _ c.new_nodes-new.ensures.0 c.new_nodes-new.ensures.1 _ c.update_next_sends.ensures _ _ _ c.begin-first.ensures _ n)
+    let n = subst (λ (k : ℕ). unwrap_or c.sending_node-node.result k ≡ sending_node_by (nodes_of c.begin-first.new.nodes).nextsend a.at.u k) c.slots_of-slots.ensures.0 c.sending_node-node.ensures.first in
+    (c.requires.1.low, c.requires.0.bounded, timed b c.requires.0, sendable b c.requires.0 a.at (rows_of a.rows.now) (nodes_of a.nodes.now) c.requires.1 _ c.note.ensures _ c.update_may_run.ensures _ c.changes-look.ensures _ c.new_nodes-new.ensures.0 c.new_nodes-new.ensures.1 _ c.update_next_sends.ensures _ _ _ c.begin-first.ensures _ n, subst (λ (k : ℕ). IfSome c.sending_node-node.result (λ i. i < k)) c.slots_of-slots.ensures.0 c.sending_node-node.ensures.among)
 
 pub returns : goal.returns
 returns c =
     let a = c.args in
     let b : PlanIndex = laid a.index.now in
-    let n = c.sending_node-n.ensures ∙ (λ i. sending_node_by (nodes_of c.begin-first.new.nodes).nextsend a.at.u (c.slots_of-slots.ensures.0 i)) in
+    let n = subst (λ (k : ℕ). unwrap_or c.sending_node-node.result k ≡ sending_node_by (nodes_of c.begin-first.new.nodes).nextsend a.at.u k) c.slots_of-slots.ensures.0 c.sending_node-node.ensures.first in
     let e = c.ends_after-ending.ensures ∙ (λ i. ends_now a.at.ends c.begin-first.result (nodes_of c.send_slot-s.new.nodes).busy a.at.u (c.slots_of-slots.ensures.0 i)) in
     event_done b c.requires.0 a.at (rows_of a.rows.now) (nodes_of a.nodes.now) c.requires.1 _ c.note.ensures _ c.update_may_run.ensures _ c.changes-look.ensures _ c.new_nodes-new.ensures.0 c.new_nodes-new.ensures.1 _ c.update_next_sends.ensures _ _ _ c.begin-first.ensures _ n _ _ _ c.send_slot-s.ensures _ _ _ e c.sooner-over.ensures c.next_event-next.ensures _ c.current_round-begun.ensures

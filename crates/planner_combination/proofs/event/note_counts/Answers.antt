@@ -1,40 +1,23 @@
--- `planner_combination::note_counts` meets its contract: before turn n what is left to note gives the whole.
-use mathlib.Core.Path.{◌≡◌, refl, sym, ap, ◌∙◌}
-use Prim.Native.Nat.{ℕ, ◌+◌, ◌*◌}
-use native.Mathlib.Omega.{arith}
-use lib.ListN.{drop, get_or, set}
-use lib.Seq.{sets}
-use Rattle.lists.proofs.Stores.{stores_next, stores_end}
-use Rattle.planner_nodes.specs.Nodes.{Nodes, nodes_of, with_noted}
+-- `planner_combination::note_counts` meets its contract: what is copied are the counts, and they stand where the
+-- condition's are noted.
+use Rattle.std.proofs.Common.{◌≡◌, sym, ap, ◌∙◌, ℕ, ◌+◌, ◌*◌, ◌<◌, ◌++◌, List, arith, length, take, drop}
+use Rattle.std.specs.List.{copy_within}
+use lib.Seq.{sets, sets-eq}
+use Rattle.lists.specs.Cut.{cut}
+use Rattle.planner_nodes.specs.Nodes.{nodes_of, with_noted}
+use Rattle.planner_nodes.proofs.Stores.{stored_run_noted}
 use Rattle.planner_combination.proofs.event.note_counts.Goals as goal
 
-pub loop-n-init : goal.loop-n-init
-loop-n-init c =
-    let a = c.args in
-    let q : a.k * 8 + 0 ≡ a.k * 8 = omega arith in
-    (omega arith, refl, ap (λ (j : ℕ). sets (nodes_of a.nodes.now).noted j (nodes_of a.nodes.now).passed) q)
-
-pub loop-n-preserved : goal.loop-n-preserved
-loop-n-preserved c =
-    let s = c.before in
-    let a = s.args in
-    let n : ℕ = c.loop-n.n in
-    let first : Nodes = nodes_of a.nodes.now in
-    let here : Nodes = nodes_of c.loop-n.nodes in
-    let same = c.loop-n.invariant.1 in
-    let put = c.put_noted.ensures in
-    let x = c.passed_of-x.ensures ∙ (λ j. get_or (same j).passed n 0) in (
-      omega (arith, c.loop-n-test.true),
-      put ∙ (λ j. with_noted (sym put j).noted (same j)),
-      (λ j. sets (put j).noted (a.k * 8 + (n + 1)) (drop (n + 1) first.passed))
-          ∙ (λ j. sets (set here.noted (a.k * 8 + n) (x j)) (a.k * 8 + (n + 1)) (drop (n + 1) first.passed))
-          ∙ stores_next 0 first.passed (a.k * 8) n here.noted (omega (arith, c.loop-n-test.true, s.requires.1)) c.loop-n.invariant.2,
-    )
+noted : (s : List ℕ) (k : ℕ) → k < 6 → length s ≡ 216 → length (nodes_of s).passed ≡ 8 →
+    nodes_of (copy_within s 8 16 (40 + k * 8)) ≡ with_noted (sets (nodes_of s).noted (k * 8) (nodes_of s).passed) (nodes_of s)
+unfolding nodes_of cut
+noted s k l long many =
+    let vs : List ℕ = take 8 (drop 8 s) in
+    let h : length vs ≡ 8 = many in
+    let q : 40 + k * 8 + length vs ≡ 40 + k * 8 + 8 = ap (λ (n : ℕ). 40 + k * 8 + n) h in
+    let e : copy_within s 8 16 (40 + k * 8) ≡ sets s (40 + k * 8) vs =
+    sym (sets-eq vs s (40 + k * 8) (omega (arith, h, l, long)) ∙ ap (λ (n : ℕ). (take (40 + k * 8) s ++ vs) ++ drop n s) q) in
+    ap nodes_of e ∙ stored_run_noted vs s (k * 8) (omega (arith, h, l))
 
 pub returns : goal.returns
-returns c =
-    let a = c.args in
-    let first : Nodes = nodes_of a.nodes.now in
-    c.loop-n.invariant.1
-    ∙ (λ j.
-    with_noted (stores_end first.passed (a.k * 8) c.loop-n.n (nodes_of c.loop-n.nodes).noted (omega (arith, c.loop-n-test.false, c.requires.1)) c.loop-n.invariant.2 j) first)
+returns c = let a = c.args in ap nodes_of c.copy_within.ensures.after ∙ noted a.nodes.now a.k c.requires.0 c.told-nodes c.requires.1

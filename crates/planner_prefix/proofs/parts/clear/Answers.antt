@@ -1,28 +1,16 @@
--- `planner_prefix::clear` meets its contract: before turn i what is left to store gives the whole.
-use mathlib.Core.Path.{◌≡◌, refl, sym, ◌∙◌}
-use Prim.Native.Nat.{ℕ, ◌+◌}
-use native.Mathlib.Omega.{arith}
-use lib.ListN.{drop, set, replicate, length-set, length-replicate}
-use lib.Seq.{sets}
-use Rattle.lists.proofs.Fill.{zeros_at}
-use Rattle.lists.proofs.Stores.{stores_next, stores_end}
+-- `planner_prefix::clear` meets its contract: the part that is filled is the front.
+use Rattle.std.proofs.Common.{◌≡◌, sym, ap, ◌∙◌, ℕ, ◌+◌, ◌≤◌, ◌++◌, List, arith, length, take, drop, replicate, length-take-le}
+use Rattle.std.proofs.lemmas.List.{length-replicate}
+use lib.Seq.{sets, sets-eq}
 use Rattle.planner_prefix.proofs.parts.clear.Goals as goal
 
-pub loop-i-init : goal.loop-i-init
-loop-i-init c = (omega arith, refl, refl)
-
-pub loop-i-preserved : goal.loop-i-preserved
-loop-i-preserved c =
-    let a = c.args in
-    let i : ℕ = c.loop-i.i in
-    let z : 0 + i ≡ i = omega arith in (
-      omega (arith, c.loop-i-test.true),
-      length-set c.loop-i.to i 0 ∙ c.loop-i.invariant.1,
-      (λ j. sets (set c.loop-i.to (sym z j) (sym (zeros_at a.n i) j)) (0 + (i + 1)) (drop (i + 1) (replicate a.n 0)))
-          ∙ stores_next 0 (replicate a.n 0) 0 i c.loop-i.to (omega (arith, c.loop-i-test.true, length-replicate {A = ℕ} a.n 0)) c.loop-i.invariant.2,
-    )
+cleared : (n : ℕ) (l : List ℕ) → n ≤ length l → replicate n 0 ++ drop n l ≡ sets l 0 (replicate n 0)
+cleared n l h =
+    let z : 0 + length (replicate n 0) ≡ n = omega (arith, length-replicate {A = ℕ} n 0) in
+    sym (sets-eq (replicate n 0) l 0 (omega (arith, z, h)) ∙ ap (λ (k : ℕ). replicate n 0 ++ drop k l) z)
 
 pub returns : goal.returns
 returns c =
     let a = c.args in
-    stores_end (replicate a.n 0) 0 c.loop-i.i c.loop-i.to (omega (arith, c.loop-i-test.false, length-replicate {A = ℕ} a.n 0)) c.loop-i.invariant.2
+    let q : length (take a.n a.to.now) ≡ a.n = length-take-le a.n a.to.now c.requires in
+    rw (c.fill.ensures.after (λ y e. e), q) (cleared a.n a.to.now c.requires)

@@ -7,6 +7,6 @@ pub returns-then-x-eq0 : goal.returns-then-x-eq0
 unfolding arrival
 returns-then-x-eq0 c = rw (eq-eqb _ _ c.if-x-eq0.true)
 
-pub returns : goal.returns
+pub returns-else-x-eq0 : goal.returns-else-x-eq0
 unfolding arrival
-returns c = rw (ne_eqb _ _ c.if-x-eq0.false)
+returns-else-x-eq0 c = rw (ne_eqb _ _ c.if-x-eq0.false)

@@ -22,11 +22,11 @@ loop-i-preserved c =
     let q = c.loop-i.invariant.1 in (
       omega (arith, c.loop-i-test.true),
       c.put_busy.ensures
-          ∙ (λ j. put_busy c.node_of-n.result c.greater-x.result (q j))
+          ∙ (λ j. put_busy c.node_of-n.result c.max-end.result (q j))
           ∙ (λ j.
           with_busy
-          (ends_next (laid a.index.now).node (rows_of a.rows.now).comes c.loop-i.i c.node_of-n.result c.greater-x.result (ends_below (laid a.index.now).node (rows_of a.rows.now).comes c.loop-i.i) refl c.node_of-n.ensures.0
-          (c.greater-x.ensures ∙ (λ k. max ((c.busy_of.ensures ∙ (λ m. get_or (q m).busy c.node_of-n.result 0)) k) (c.comes_of.ensures k)))
+          (ends_next (laid a.index.now).node (rows_of a.rows.now).comes c.loop-i.i c.node_of-n.result c.max-end.result (ends_below (laid a.index.now).node (rows_of a.rows.now).comes c.loop-i.i) refl c.node_of-n.ensures.0
+          (c.max-end.ensures ∙ (λ k. max ((c.busy_of.ensures ∙ (λ m. get_or (q m).busy c.node_of-n.result 0)) k) (c.comes_of.ensures k)))
           j)
           (nodes_of a.nodes.now)),
     )

@@ -7,6 +7,6 @@ pub returns-then-s-eq-NEVER : goal.returns-then-s-eq-NEVER
 unfolding counts_at
 returns-then-s-eq-NEVER c = rw (eq-eqb _ _ c.if-s-eq-NEVER.true)
 
-pub returns : goal.returns
+pub returns-else-s-eq-NEVER : goal.returns-else-s-eq-NEVER
 unfolding counts_at
-returns c = rw (ne_eqb _ _ c.if-s-eq-NEVER.false)
+returns-else-s-eq-NEVER c = rw (ne_eqb _ _ c.if-s-eq-NEVER.false)

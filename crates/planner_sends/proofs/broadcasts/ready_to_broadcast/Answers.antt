@@ -17,11 +17,11 @@ arrives s =
     let a = s.args in
     s.comes_of.ensures ∙ ap (λ (r : ℕ). get_or (rows_of a.rows.now).comes (r + a.k) 0) s.conditionrow_of.ensures.0
 
-pub returns-then-comes_of-ne0 : goal.returns-then-comes_of-ne0
+pub returns-else-comes_of-eq0 : goal.returns-else-comes_of-eq0
 unfolding ready_by placed_by
-returns-then-comes_of-ne0 c = simp (← arrives c.before, ne_eqb _ _ c.if-comes_of-ne0.true)
+returns-else-comes_of-eq0 c = simp (← arrives c.before, ne_eqb _ _ c.if-comes_of-eq0.false)
 
-pub returns : goal.returns
+pub returns-then-comes_of-eq0 : goal.returns-then-comes_of-eq0
 unfolding ready_by placed_by came_by
-returns c =
-    rw (← arrives c.before.before.before, eq-eqb _ _ c.if-comes_of-ne0.false, ← c.decider_of-d.ensures.0, ← c.comes_of-2.ensures) c.came.ensures
+returns-then-comes_of-eq0 c =
+    rw (← arrives c.before.before.before, eq-eqb _ _ c.if-comes_of-eq0.true, ← c.decider_of-d.ensures.0, ← c.comes_of-then-comes_of-eq0.ensures) c.came.ensures

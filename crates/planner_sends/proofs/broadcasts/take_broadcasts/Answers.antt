@@ -26,7 +26,7 @@ loop-used-init c =
 
 pub lowest-requires : goal.lowest-requires
 lowest-requires c =
-    (member_some c.loop-used.m (omega (arith, c.loop-used-test.true, c.lesser-fits.ensures, c.how_many-n.ensures, c.loop-used.invariant.1)), c.loop-used.invariant.0)
+    (member_some c.loop-used.m (omega (arith, c.loop-used-test.true, c.min-fits.ensures, c.how_many-n.ensures, c.loop-used.invariant.1)), c.loop-used.invariant.0)
 
 -- the row of the broadcast is one of the rows
 row_small : (c : After-lowest) → c.args.conditionrow + c.lowest.result < 198
@@ -47,7 +47,7 @@ put_place-requires c = omega (arith, row_small c.before.before.before)
 
 pub without_lowest-m-requires : goal.without_lowest-m-requires
 without_lowest-m-requires c =
-    (member_some c.loop-used.m (omega (arith, c.loop-used-test.true, c.lesser-fits.ensures, c.how_many-n.ensures, c.loop-used.invariant.1)), c.loop-used.invariant.0)
+    (member_some c.loop-used.m (omega (arith, c.loop-used-test.true, c.min-fits.ensures, c.how_many-n.ensures, c.loop-used.invariant.1)), c.loop-used.invariant.0)
 
 pub loop-used-preserved : goal.loop-used-preserved
 loop-used-preserved c =
@@ -58,7 +58,7 @@ loop-used-preserved c =
     let short = ltb a.room (length (members a.mask)) in
     let s : Rows = rows_of c.loop-used.rows in
     let stored = c.put_place.ensures ∙ ap (put_place row c.loop-used.used) c.put_comes.ensures in
-    let less : c.loop-used.used < a.room = omega (arith, c.loop-used-test.true, c.lesser-fits.ensures) in (
+    let less : c.loop-used.used < a.room = omega (arith, c.loop-used-test.true, c.min-fits.ensures) in (
       omega (arith, x.1, c.loop-used.invariant.0),
       omega (arith, c.loop-used.invariant.1, ap length low.ensures, ap length x.0),
       c.loop-used.invariant.2
@@ -73,9 +73,11 @@ returns c =
     let a = c.args in
     let s : Rows = rows_of c.loop-used.rows in
     let short = ltb a.room (length (members a.mask)) in
+    let all : c.min-fits.result ≡ c.loop-used.used = omega (arith, c.loop-used-test.false, c.loop-used.auto.used-end) in
     record {
       taken =
-          ap (λ (n : ℕ). load c.loop-used.used (ltb a.room n) s.comes s.place) c.how_many-n.ensures
-          ∙ sym (c.loop-used.invariant.2 ∙ broadcast_end a.conditionrow a.end a.room c.loop-used.m c.loop-used.used (length (members a.mask)) (load c.loop-used.used short s.comes s.place) c.loop-used.invariant.1 (omega (arith, c.loop-used-test.false, c.lesser-fits.ensures, c.how_many-n.ensures)));
+          ap (λ (k : ℕ). load k (ltb a.room c.how_many-n.result) s.comes s.place) all
+          ∙ ap (λ (n : ℕ). load c.loop-used.used (ltb a.room n) s.comes s.place) c.how_many-n.ensures
+          ∙ sym (c.loop-used.invariant.2 ∙ broadcast_end a.conditionrow a.end a.room c.loop-used.m c.loop-used.used (length (members a.mask)) (load c.loop-used.used short s.comes s.place) c.loop-used.invariant.1 (omega (arith, c.loop-used-test.false, c.min-fits.ensures, c.how_many-n.ensures)));
       rest = c.loop-used.invariant.3;
     }

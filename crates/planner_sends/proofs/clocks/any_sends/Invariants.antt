@@ -12,6 +12,3 @@ use Rattle.planner_sends.proofs.clocks.any_sends.Given as goal
 abbrev pub invariant-loop-n : goal.invariant-loop-n
 invariant-loop-n l =
     (l.n ≤ 8) × (any (λ k. eqb (get_or (nodes_of l.nodes).nextsend k 0) l.u) (below 8) ≡ (l.found || any (λ k. eqb (get_or (nodes_of l.nodes).nextsend k 0) l.u) (upfrom l.n (8 - l.n))))
-
-abbrev pub decreases-loop-n : goal.decreases-loop-n
-decreases-loop-n l = 8 - l.n

@@ -14,8 +14,8 @@ loop-n-init c =
     let a = c.args in
     (omega arith, sym (built_start (λ k. eqb (get_or a.nodes.now (a.at + k) 0) a.u) 8))
 
-pub with_node-mask-requires : goal.with_node-mask-requires
-with_node-mask-requires c =
+pub with_bit-mask-requires : goal.with_bit-mask-requires
+with_bit-mask-requires c =
     let a = c.args in
     let n = c.loop-n.n in
     rw c.loop-n.invariant.1 (built_small (λ k. eqb (get_or a.nodes.now (a.at + k) 0) a.u) n (8 - n) 7 (omega (arith, c.loop-n-test.true)))
@@ -25,7 +25,7 @@ loop-n-preserved c =
     let a = c.args in
     let f : ℕ → Bool = λ k. eqb (get_or a.nodes.now (a.at + k) 0) a.u in
     let n = c.loop-n.n in
-    (omega arith, c.with_node-mask.ensures.0 ∙ ap (under (f (n - 1))) c.loop-n.invariant.1 ∙ built_step f 8 n (omega (arith, c.loop-n-test.true)) c.loop-n.invariant.0)
+    (omega arith, c.with_bit-mask.ensures.0 ∙ ap (under (f (n - 1))) c.loop-n.invariant.1 ∙ built_step f 8 n (omega (arith, c.loop-n-test.true)) c.loop-n.invariant.0)
 
 pub returns : goal.returns
 returns c =

@@ -8,7 +8,6 @@ use lib.ListN.{get_or}
 use Rattle.planner_nodes.specs.Nodes.{nodes_of}
 use Rattle.planner_sends.specs.Clocks.{event_now}
 use Rattle.planner_sends.proofs.clocks.next_event.Goals as goal
-use Rattle.planner_sends.proofs.clocks.next_event.Goals.{then-next-least, else-next-least}
 
 pub loop-n-init : goal.loop-n-init
 unfolding event_now
@@ -18,8 +17,7 @@ pub loop-n-preserved : goal.loop-n-preserved
 unfolding event_now
 loop-n-preserved c =
     let a = c.args in
-    let same = c.nextsend_of-next.ensures in
-    let q : c.if-next-least.least ≡ min c.loop-n.least (get_or (nodes_of a.nodes.now).nextsend c.loop-n.n 0) = elim c.if-next-least.branch [ then-next-least w ↦ omega (arith, same, w.if-next-least.true, w.least-is) | else-next-least w ↦ omega (arith, same, w.if-next-least.false, w.least-is) ] in (
+    let q = c.min-least.ensures ∙ ap (min c.loop-n.least) c.nextsend_of.ensures in (
       omega arith,
       q ∙ ap (λ (x : ℕ). min x (get_or (nodes_of a.nodes.now).nextsend c.loop-n.n 0)) c.loop-n.invariant.1 ∙ ap (event_now (nodes_of a.nodes.now).nextsend a.come) (sym (add-one c.loop-n.n)),
     )

@@ -24,6 +24,6 @@ none nextsend u slots l h = at (first_below slots (λ n. eqb (get_or nextsend n 
     at (missing g e) = sym e
     at (found k m t e) = clash t (none_in (λ n. eqb (get_or nextsend n 0) u) h (in_below 8 k (omega arith)))
 
-pub returns : goal.returns
-returns c =
+pub returns-else-any_sends-clause-first : goal.returns-else-any_sends-clause-first
+returns-else-any_sends-clause-first c =
     none (nodes_of c.args.nodes.now).nextsend c.args.u c.args.slots c.requires (sym c.any_sends.ensures ∙ c.if-any_sends.false)

@@ -13,9 +13,9 @@ loop-n-init c =
     let a = c.args in
     ap (first_or a.slots (λ k. eqb (get_or (nodes_of a.nodes.now).nextsend k 0) a.u)) (upfrom_start a.slots)
 
-pub returns-then-nextsend_of-u : goal.returns-then-nextsend_of-u
+pub returns-then-nextsend_of-u-clause-first : goal.returns-then-nextsend_of-u-clause-first
 unfolding first_or sending_node_by
-returns-then-nextsend_of-u c =
+returns-then-nextsend_of-u-clause-first c =
     let a = c.args in
     sym (c.loop-n.invariant ∙ ap (first_or a.slots (λ k. eqb (get_or (nodes_of a.nodes.now).nextsend k 0) a.u)) (upfrom_next a.slots c.loop-n.n c.loop-n-test.true) ∙ rw (eq-eqb _ _ (sym c.nextsend_of.ensures ∙ c.if-nextsend_of-u.true)))
 
@@ -25,8 +25,8 @@ loop-n-preserved c =
     let a = c.args in
     c.loop-n.invariant ∙ ap (first_or a.slots (λ k. eqb (get_or (nodes_of a.nodes.now).nextsend k 0) a.u)) (upfrom_next a.slots c.loop-n.n c.loop-n-test.true) ∙ rw (ne_eqb _ _ (λ z. c.if-nextsend_of-u.false (c.nextsend_of.ensures ∙ z)))
 
-pub returns : goal.returns
+pub returns-clause-first : goal.returns-clause-first
 unfolding first_or sending_node_by
-returns c =
+returns-clause-first c =
     let a = c.args in
     sym (c.loop-n.invariant ∙ ap (first_or a.slots (λ k. eqb (get_or (nodes_of a.nodes.now).nextsend k 0) a.u)) (upfrom_end a.slots c.loop-n.n c.loop-n-test.false))

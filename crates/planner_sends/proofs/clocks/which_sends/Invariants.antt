@@ -11,6 +11,3 @@ use Rattle.planner_sends.proofs.clocks.which_sends.Given as goal
 abbrev pub invariant-loop-n : goal.invariant-loop-n
 invariant-loop-n l =
     first_or l.slots (λ k. eqb (get_or (nodes_of l.nodes).nextsend k 0) l.u) (below l.slots) ≡ first_or l.slots (λ k. eqb (get_or (nodes_of l.nodes).nextsend k 0) l.u) (upfrom l.n (l.slots - l.n))
-
-abbrev pub decreases-loop-n : goal.decreases-loop-n
-decreases-loop-n l = l.slots - l.n

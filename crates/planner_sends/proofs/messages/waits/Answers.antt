@@ -17,12 +17,12 @@ arrives s =
     let a = s.args in
     s.comes_of.ensures ∙ ap (λ (r : ℕ). get_or (rows_of a.rows.now).comes (r + a.e) 0) s.processes_of.ensures.0
 
-pub returns-then-comes_of-ne0 : goal.returns-then-comes_of-ne0
+pub returns-else-comes_of-eq0 : goal.returns-else-comes_of-eq0
 unfolding waits_by placed_by
-returns-then-comes_of-ne0 c =
-    simp (← arrives c.before, ne_eqb _ _ c.if-comes_of-ne0.true)
+returns-else-comes_of-eq0 c =
+    simp (← arrives c.before, ne_eqb _ _ c.if-comes_of-eq0.false)
 
-pub returns : goal.returns
+pub returns-then-comes_of-eq0 : goal.returns-then-comes_of-eq0
 unfolding waits_by placed_by
-returns c =
-    simp (← arrives c.before.before, eq-eqb _ _ c.if-comes_of-ne0.false) c.message_ready.ensures
+returns-then-comes_of-eq0 c =
+    simp (← arrives c.before.before, eq-eqb _ _ c.if-comes_of-eq0.true) c.message_ready.ensures

@@ -4,6 +4,7 @@ use mathlib.Core.Path.{sym, ap, ◌∙◌}
 use mathlib.Core.Bool.{Bool, ◌||◌}
 use Prim.Native.Nat.{ℕ}
 use native.Mathlib.Omega.{arith}
+use borrow.Author.Tests.{lt-ltb}
 use Rattle.lists.specs.Lists.{any, below}
 use Rattle.log_queries.specs.Reading.{part}
 use Rattle.plan_index.specs.declared.PlanIndex.{PlanIndex}
@@ -49,11 +50,11 @@ returns-then-a-z c =
     let e = c.find_waiting-z.ensures in
     let qx = c.queuefirst_of-a.ensures.0 in
     let qy = c.queuefirst_of-b.ensures.0 in
-    let some = some_waits (waits c.before.before.before.before.before.before.before) (part b.queue c.queuefirst_of-a.result c.queuefirst_of-b.result) (nodes_of a.nodes.now).wait _ _ _ e.listed c.if-a-z.true in record { pending = sym ((λ i. any (waits c.before.before.before.before.before.before.before) (part b.queue (sym qx i) (sym qy i)) || pending_broadcasts c.before.before.before.before.before.before.before) ∙ ap (λ (t : Bool). t || pending_broadcasts c.before.before.before.before.before.before.before) some); waits = relists b (rows_of a.rows.now) a.u a.n (nodes_of a.nodes.now) _ _ _ _ _ qx qy e.listed e.upto e.rest c.put_waitend.ensures }
+    let some = some_waits (waits c.before.before.before.before.before.before.before) (part b.queue c.queuefirst_of-a.result c.queuefirst_of-b.result) (nodes_of a.nodes.now).wait _ _ _ e.listed c.if-a-z.true in record { pending = lt-ltb _ _ c.if-a-z.true ∙ sym ((λ i. any (waits c.before.before.before.before.before.before.before) (part b.queue (sym qx i) (sym qy i)) || pending_broadcasts c.before.before.before.before.before.before.before) ∙ ap (λ (t : Bool). t || pending_broadcasts c.before.before.before.before.before.before.before) some); waits = relists b (rows_of a.rows.now) a.u a.n (nodes_of a.nodes.now) _ _ _ _ _ qx qy e.listed e.upto e.rest c.put_waitend.ensures }
 
-pub returns : goal.returns
+pub returns-else-a-z : goal.returns-else-a-z
 unfolding pending_in pending_by
-returns c =
+returns-else-a-z c =
     let a = c.args in
     let b : PlanIndex = laid a.index.now in
     let e = c.find_waiting-z.ensures in

@@ -7,6 +7,6 @@ pub returns-then-left : goal.returns-then-left
 unfolding next_round
 returns-then-left c = rw c.if-left.true refl
 
-pub returns : goal.returns
+pub returns-else-left : goal.returns-else-left
 unfolding next_round
-returns c = rw c.if-left.false refl
+returns-else-left c = rw c.if-left.false refl

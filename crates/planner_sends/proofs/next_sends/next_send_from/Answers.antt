@@ -16,6 +16,6 @@ pub returns-then-pending : goal.returns-then-pending
 unfolding next_send_from
 returns-then-pending c = rw c.if-pending.true (ap (λ (v : ℕ). v + 1) c.first_beginning.ensures)
 
-pub returns : goal.returns
+pub returns-else-pending : goal.returns-else-pending
 unfolding next_send_from
-returns c = rw c.if-pending.false
+returns-else-pending c = rw c.if-pending.false

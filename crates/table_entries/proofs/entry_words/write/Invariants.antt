@@ -12,6 +12,3 @@ invariant-loop-r l =
     (l.r ≤ l.rows)
     × (sets l.words (5 * get_or l.ends l.r 0) (each (λ q. each (five q) (row_part l.list l.ends q)) (upfrom l.r (l.rows - l.r))) ≡ sets l.initial.words 0 (table l.list l.ends l.rows))
     × (length l.words ≡ length l.initial.words)
-
-abbrev pub decreases-loop-r : goal.decreases-loop-r
-decreases-loop-r l = l.rows - l.r

@@ -61,12 +61,6 @@ collect_row-n-requires c =
     let few = v.few in
     (omega (arith, u, x, y), omega (arith, u, x, y), omega (arith, u, x, y, few), r.long, v.long, v.ascends)
 
-pub overflow_add-q-in-loop-q : goal.overflow_add-q-in-loop-q
-overflow_add-q-in-loop-q c = omega (arith, small c.before.before.before.before.before.before.before.before.before.before)
-
-pub loop-q-smaller : goal.loop-q-smaller
-loop-q-smaller c = let t = c.loop-q-test.true in omega (arith, t)
-
 pub loop-q-preserved : goal.loop-q-preserved
 loop-q-preserved c =
     let a = (c.before.before.before.before.before.before.before.before.before.before.before.before.before.before).args in

@@ -42,8 +42,8 @@ loop-i-preserved c =
         row_left_joined (entry_frame a.node a.bytes) a.list.now a.to
             (in_order (map (entry_frame a.node a.bytes) (slice a.from a.to a.list.now)) (take a.n a.out.now))
             (a.n + (a.to - a.from)) c.loop-i-test.true inside v.0 (ap (λ (k : ℕ). k / 1024) (sym c.frame-x.ensures.0) ∙ u.if-x-y.true) u.out-is u.m-is
-            (u.y-is ∙ u.greater_u64-y.ensures ∙ ap (λ (k : ℕ). max k c.loop-i.y) c.frame-x.ensures.0),
-        omega (arith, u.y-is, u.greater_u64-y.ensures, c.frame-x.ensures.1, v.1),
+            (u.y-is ∙ u.max-y.ensures ∙ ap (λ (k : ℕ). max k c.loop-i.y) c.frame-x.ensures.0),
+        omega (arith, u.y-is, u.max-y.ensures, c.frame-x.ensures.1, v.1),
       )
       | else-x-y u ↦ (
         row_left_next (entry_frame a.node a.bytes) a.list.now a.to

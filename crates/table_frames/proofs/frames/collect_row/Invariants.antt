@@ -11,6 +11,3 @@ use Rattle.table_frames.proofs.frames.collect_row.Given as goal
 abbrev pub invariant-loop-i : goal.invariant-loop-i
 invariant-loop-i l =
     RowLeft (entry_frame l.node l.bytes) l.list l.to (in_order (map (entry_frame l.node l.bytes) (slice l.from l.to l.list)) (take l.n l.initial.out)) (l.n + (l.to - l.from)) l.out l.m l.y l.i × (l.y < 2 ^ 57)
-
-abbrev pub decreases-loop-i : goal.decreases-loop-i
-decreases-loop-i l = l.to - l.i

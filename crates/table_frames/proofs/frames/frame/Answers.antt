@@ -5,4 +5,4 @@ use Rattle.table_frames.proofs.frames.frame.Goals as goal
 
 pub returns : goal.returns
 unfolding entry_frame
-returns c = omega (arith, c.long.ensures, c.long-2.ensures)
+returns c = omega arith

@@ -19,14 +19,14 @@ bounds-words-k-in-loop-i c =
     let p = c.requires in
     let v = c.loop-i.invariant in
     let t = c.loop-i-test.true in
-    simp length-set (omega (arith, v.place, v.long, p.2))
+    simp length-set (omega (arith, v.long, p.2))
 
 pub bounds-words-k-in-loop-i-2 : goal.bounds-words-k-in-loop-i-2
 bounds-words-k-in-loop-i-2 c =
     let p = c.requires in
     let v = c.loop-i.invariant in
     let t = c.loop-i-test.true in
-    simp length-set (omega (arith, v.place, v.long, p.2))
+    simp length-set (omega (arith, v.long, p.2))
 
 pub loop-i-preserved : goal.loop-i-preserved
 loop-i-preserved c =

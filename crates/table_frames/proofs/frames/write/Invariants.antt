@@ -1,10 +1,6 @@
 -- `table_frames::write` meets its contract: what is left to write gives the whole.
-use Prim.Native.Nat.{◌-◌}
 use Rattle.table_frames.proofs.Writing.{Written}
 use Rattle.table_frames.proofs.frames.write.Given as goal
 
 abbrev pub invariant-loop-i : goal.invariant-loop-i
-invariant-loop-i l = Written l.list l.initial.words l.n l.words l.i l.k
-
-abbrev pub decreases-loop-i : goal.decreases-loop-i
-decreases-loop-i l = l.n - l.i
+invariant-loop-i l = Written l.list l.initial.words l.n l.words l.i

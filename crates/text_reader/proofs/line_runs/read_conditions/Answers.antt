@@ -1,31 +1,10 @@
--- `read_conditions` reads a run as the grammar does: the lines up to `next` are counted, and stored where there is
--- room.
-use native.Mathlib.Omega.{arith}
-use Rattle.text_scanner.specs.Place.{number}
-use Rattle.text_scanner.proofs.AnswerCases.{told}
-use Rattle.text_reader.proofs.RunsSoFar.{put, left_out, conditions_law, begun, over, advanced, more}
+-- `read_conditions` reads a run as the grammar does.
 use borrow.Author.Rules.{rules}
+use Rattle.text_reader.proofs.RunsRead.{conditions_law, ahead, run_read}
 use Rattle.text_reader.proofs.line_runs.read_conditions.Goals as goal
-use Rattle.text_reader.proofs.line_runs.read_conditions.Goals.{then-count-lt-CONDITIONS, else-count-lt-CONDITIONS}
 
-pub loop-x-init : goal.loop-x-init
-loop-x-init c = begun conditions_law c.requires
+pub read_run-count-requires-clause-forward : goal.read_run-count-requires-clause-forward
+read_run-count-requires-clause-forward c i x k a = ahead conditions_law x a.1 (search rules)
 
-pub condition-requires : goal.condition-requires
-condition-requires c = c.loop-x.invariant.within
-
-pub returns-in_default : goal.returns-in_default
-returns-in_default c = over conditions_law c.loop-x.invariant (search rules) (told number c.in_default.is c.condition.ensures)
-
-pub overflow_add-count : goal.overflow_add-count
-overflow_add-count c = omega (arith, c.loop-x.invariant.few, c.loop-x.invariant.within)
-
-pub loop-x-smaller : goal.loop-x-smaller
-loop-x-smaller c =
-    let e = told number c.in-Got.is c.condition.ensures in
-    omega (arith, advanced conditions_law c.loop-x.invariant c.in-Got.x e, e.within)
-
-pub loop-x-preserved : goal.loop-x-preserved
-loop-x-preserved c =
-    more conditions_law c.loop-x.invariant c.in-Got.x (told number c.in-Got.is c.condition.ensures)
-    (elim c.if-count-lt-CONDITIONS.branch [ then-count-lt-CONDITIONS w ↦ put (omega arith) w.plan-is | else-count-lt-CONDITIONS w ↦ left_out (omega arith) w.plan-is ])
+pub returns : goal.returns
+returns c = run_read conditions_law _ (λ t i r e. search rules) _ c.args.before c.requires (search rules) c.read_run-count.ensures

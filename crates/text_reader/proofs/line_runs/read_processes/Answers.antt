@@ -1,33 +1,11 @@
--- `read_processes` reads a run as the grammar does: the lines up to `next` are counted, and stored where there is room.
-use native.Mathlib.Omega.{arith}
-use Rattle.plan.specs.contracts.Process.{the_field}
-use Rattle.text_scanner.specs.Lines.{process}
-use Rattle.text_scanner.proofs.AnswerCases.{told}
-use Rattle.text_reader.proofs.RunsSoFar.{put, left_out, processes_law, array_long, begun, over, advanced, more}
+-- `read_processes` reads a run as the grammar does.
 use borrow.Author.Rules.{rules}
+use Rattle.plan.specs.contracts.Process.{the_field}
+use Rattle.text_reader.proofs.RunsRead.{processes_law, array_long, ahead, run_read}
 use Rattle.text_reader.proofs.line_runs.read_processes.Goals as goal
-use Rattle.text_reader.proofs.line_runs.read_processes.Goals.{then-count-lt-PROCESSES, else-count-lt-PROCESSES}
 
-pub loop-x-init : goal.loop-x-init
-loop-x-init c = begun processes_law c.requires
+pub read_run-count-requires-clause-forward : goal.read_run-count-requires-clause-forward
+read_run-count-requires-clause-forward c i x k a = ahead processes_law x a.1 (search rules)
 
-pub process-requires : goal.process-requires
-process-requires c = c.loop-x.invariant.within
-
-pub returns-in_default : goal.returns-in_default
-returns-in_default c =
-    over processes_law c.loop-x.invariant (search (rules, array_long the_field))
-    (told process c.in_default.is c.process.ensures)
-
-pub overflow_add-count : goal.overflow_add-count
-overflow_add-count c = omega (arith, c.loop-x.invariant.few, c.loop-x.invariant.within)
-
-pub loop-x-smaller : goal.loop-x-smaller
-loop-x-smaller c =
-    let e = told process c.in-Got.is c.process.ensures in
-    omega (arith, advanced processes_law c.loop-x.invariant c.in-Got.x e, e.within)
-
-pub loop-x-preserved : goal.loop-x-preserved
-loop-x-preserved c =
-    more processes_law c.loop-x.invariant c.in-Got.x (told process c.in-Got.is c.process.ensures)
-    (elim c.if-count-lt-PROCESSES.branch [ then-count-lt-PROCESSES w ↦ put (omega arith) w.plan-is | else-count-lt-PROCESSES w ↦ left_out (omega arith) w.plan-is ])
+pub returns : goal.returns
+returns c = run_read processes_law _ (λ t i r e. search rules) _ c.args.before c.requires (search (rules, array_long the_field)) c.read_run-count.ensures

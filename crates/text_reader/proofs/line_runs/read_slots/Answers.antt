@@ -1,33 +1,11 @@
--- `read_slots` reads a run as the grammar does: the lines up to `next` are counted, and stored where there is room.
-use native.Mathlib.Omega.{arith}
-use Rattle.plan.specs.contracts.Slot.{the_field}
-use Rattle.text_scanner.specs.Lines.{slot}
-use Rattle.text_scanner.proofs.AnswerCases.{told}
-use Rattle.text_reader.proofs.RunsSoFar.{put, left_out, slots_law, array_long, begun, over, advanced, more}
+-- `read_slots` reads a run as the grammar does.
 use borrow.Author.Rules.{rules}
+use Rattle.plan.specs.contracts.Slot.{the_field}
+use Rattle.text_reader.proofs.RunsRead.{slots_law, array_long, ahead, run_read}
 use Rattle.text_reader.proofs.line_runs.read_slots.Goals as goal
-use Rattle.text_reader.proofs.line_runs.read_slots.Goals.{then-count-lt-SLOTS, else-count-lt-SLOTS}
 
-pub loop-x-init : goal.loop-x-init
-loop-x-init c = begun slots_law c.requires
+pub read_run-count-requires-clause-forward : goal.read_run-count-requires-clause-forward
+read_run-count-requires-clause-forward c i x k a = ahead slots_law x a.1 (search rules)
 
-pub slot-requires : goal.slot-requires
-slot-requires c = c.loop-x.invariant.within
-
-pub returns-in_default : goal.returns-in_default
-returns-in_default c =
-    over slots_law c.loop-x.invariant (search (rules, array_long the_field))
-    (told slot c.in_default.is c.slot.ensures)
-
-pub overflow_add-count : goal.overflow_add-count
-overflow_add-count c = omega (arith, c.loop-x.invariant.few, c.loop-x.invariant.within)
-
-pub loop-x-smaller : goal.loop-x-smaller
-loop-x-smaller c =
-    let e = told slot c.in-Got.is c.slot.ensures in
-    omega (arith, advanced slots_law c.loop-x.invariant c.in-Got.x e, e.within)
-
-pub loop-x-preserved : goal.loop-x-preserved
-loop-x-preserved c =
-    more slots_law c.loop-x.invariant c.in-Got.x (told slot c.in-Got.is c.slot.ensures)
-    (elim c.if-count-lt-SLOTS.branch [ then-count-lt-SLOTS w ↦ put (omega arith) w.plan-is | else-count-lt-SLOTS w ↦ left_out (omega arith) w.plan-is ])
+pub returns : goal.returns
+returns c = run_read slots_law _ (λ t i r e. search rules) _ c.args.before c.requires (search (rules, array_long the_field)) c.read_run-count.ensures

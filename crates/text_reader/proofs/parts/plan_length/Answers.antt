@@ -13,9 +13,6 @@ returns-then-is_empty_line c =
     let l = c.loop-i in
     found l.invariant (omega arith) (sym c.is_empty_line.ensures ∙ c.if-is_empty_line.true)
 
-pub loop-i-smaller : goal.loop-i-smaller
-loop-i-smaller c = omega arith
-
 pub loop-i-preserved : goal.loop-i-preserved
 loop-i-preserved c =
     let l = c.loop-i in

@@ -1,25 +1,15 @@
 -- `pick` gives what the grammar reads: the word of one choice, or else of the other.
 use Rattle.text_grammar.specs.Parse.{pick_at, value_at}
-use Rattle.text_scanner.specs.Place.{next}
-use Rattle.text_scanner.proofs.AnswerCases.{told}
 use Rattle.text_scanner.proofs.line_ends.pick.Goals as goal
 
-pub returns-in-Got : goal.returns-in-Got
+pub returns-in-Some : goal.returns-in-Some
 unfolding pick_at value_at
-returns-in-Got c =
-    let first = told next c.in-Got.is c.word.ensures in
-    record { within = first.within; same = rw (← first.same) }
+returns-in-Some c = record { within = c.in-Some.ensures.within; same = rw (← c.in-Some.ensures.same) }
 
-pub returns-in-Got-word : goal.returns-in-Got-word
+pub returns-in_err-i : goal.returns-in_err-i
 unfolding pick_at value_at
-returns-in-Got-word c =
-    let second = told next c.in-Got-word.is c.word-2.ensures in
-    let first = told next c.in_default.is c.word.ensures in
-    record { within = second.within; same = rw (← first.same, ← second.same) }
+returns-in_err-i c = rw c.from_residual.ensures (record { within = tt; same = rw (← c.in_default.ensures.same, ← c.in_err-i.ensures.same) })
 
 pub returns : goal.returns
 unfolding pick_at value_at
-returns c =
-    let second = told next c.in_default-word.is c.word-2.ensures in
-    let first = told next c.in_default.is c.word.ensures in
-    record { within = tt; same = rw (← first.same, ← second.same) }
+returns c = record { within = c.in_ok-i.ensures.within; same = rw (← c.in_default.ensures.same, ← c.in_ok-i.ensures.same) }

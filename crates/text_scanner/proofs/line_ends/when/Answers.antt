@@ -1,34 +1,21 @@
 -- `when` gives what the grammar reads: `always`, or else a condition that must be true, or else one that must be false.
 use Rattle.text_grammar.specs.Parse.{when_at, on_at, value_at}
-use Rattle.text_scanner.specs.Place.{next, number}
-use Rattle.text_scanner.proofs.AnswerCases.{told}
 use Rattle.text_scanner.proofs.line_ends.when.Goals as goal
 
-pub returns-in-Got : goal.returns-in-Got
+pub returns-in-Some : goal.returns-in-Some
 unfolding when_at on_at value_at
-returns-in-Got c =
-    let first = told next c.in-Got.is c.word.ensures in
-    record { within = first.within; same = rw (← first.same) }
+returns-in-Some c = record { within = c.in-Some.ensures.within; same = rw (← c.in-Some.ensures.same) }
 
-pub returns-in-Got-closed : goal.returns-in-Got-closed
+pub returns-in-Some-closed : goal.returns-in-Some-closed
 unfolding when_at on_at value_at
-returns-in-Got-closed c =
-    let second = told number c.in-Got-closed.is c.closed.ensures in
-    let first = told next c.in_default.is c.word.ensures in
-    record { within = second.within; same = rw (← first.same, ← second.same) }
+returns-in-Some-closed c = record { within = c.in-Some-closed.ensures.within; same = rw (← c.in_default.ensures.same, ← c.in-Some-closed.ensures.same) }
 
-pub returns-in-Got-closed-2 : goal.returns-in-Got-closed-2
+pub returns-in_err-k : goal.returns-in_err-k
 unfolding when_at on_at value_at
-returns-in-Got-closed-2 c =
-    let third = told number c.in-Got-closed-2.is c.closed-2.ensures in
-    let second = told number c.in_default-closed.is c.closed.ensures in
-    let first = told next c.in_default.is c.word.ensures in
-    record { within = third.within; same = rw (← first.same, ← second.same, ← third.same) }
+returns-in_err-k c =
+    rw c.from_residual.ensures (record { within = tt; same = rw (← c.in_default.ensures.same, ← c.in_default-closed.ensures.same, ← c.in_err-k.ensures.same) })
 
 pub returns : goal.returns
 unfolding when_at on_at value_at
 returns c =
-    let third = told number c.in_default-closed-2.is c.closed-2.ensures in
-    let second = told number c.in_default-closed.is c.closed.ensures in
-    let first = told next c.in_default.is c.word.ensures in
-    record { within = tt; same = rw (← first.same, ← second.same, ← third.same) }
+    record { within = c.in_ok-k.ensures.within; same = rw (← c.in_default.ensures.same, ← c.in_default-closed.ensures.same, ← c.in_ok-k.ensures.same) }

@@ -1,49 +1,32 @@
 -- `edge` gives what the grammar reads: `from`, `to`, `bytes`, and `when` with the end of the line.
 use Rattle.text_grammar.specs.Parse.{edge_at}
-use Rattle.text_scanner.specs.Place.{number}
-use Rattle.text_scanner.specs.LineEnds.{when}
-use Rattle.text_scanner.proofs.AnswerCases.{told}
 use Rattle.text_scanner.proofs.lines.edge.Goals as goal
 
-pub returns-in_default : goal.returns-in_default
+pub returns-in_err-from : goal.returns-in_err-from
 unfolding edge_at
-returns-in_default c = record { within = tt; same = rw (← (told number c.in_default.is c.field.ensures).same) }
+returns-in_err-from c = rw c.from_residual.ensures (record { within = tt; same = rw (← c.in_err-from.ensures.same) })
 
 pub field-requires-2 : goal.field-requires-2
-field-requires-2 c = (told number c.in-Got.is c.field.ensures).within
+field-requires-2 c = c.in_ok-from.ensures.within
 
-pub returns-in_default-field : goal.returns-in_default-field
+pub returns-in_err-to : goal.returns-in_err-to
 unfolding edge_at
-returns-in_default-field c =
-    let from = told number c.in-Got.is c.field.ensures in
-    record { within = tt; same = rw (← from.same, ← (told number c.in_default-field.is c.field-2.ensures).same) }
+returns-in_err-to c = rw c.from_residual-in_err-to.ensures (record { within = tt; same = rw (← c.in_ok-from.ensures.same, ← c.in_err-to.ensures.same) })
 
 pub field-requires-3 : goal.field-requires-3
-field-requires-3 c = (told number c.in-Got-field.is c.field-2.ensures).within
+field-requires-3 c = c.in_ok-to.ensures.within
 
-pub returns-in_default-field-2 : goal.returns-in_default-field-2
+pub returns-in_err-bytes : goal.returns-in_err-bytes
 unfolding edge_at
-returns-in_default-field-2 c =
-    let to = told number c.in-Got-field.is c.field-2.ensures in
-    let from = told number c.in-Got.is c.field.ensures in
-    record { within = tt; same = rw (← from.same, ← to.same, ← (told number c.in_default-field-2.is c.field-3.ensures).same) }
+returns-in_err-bytes c = rw c.from_residual-in_err-bytes.ensures (record { within = tt; same = rw (← c.in_ok-from.ensures.same, ← c.in_ok-to.ensures.same, ← c.in_err-bytes.ensures.same) })
 
 pub when-requires : goal.when-requires
-when-requires c = (told number c.in-Got-field-2.is c.field-3.ensures).within
+when-requires c = c.in_ok-bytes.ensures.within
 
-pub returns-in_default-when : goal.returns-in_default-when
+pub returns-in_err-when : goal.returns-in_err-when
 unfolding edge_at
-returns-in_default-when c =
-    let bytes = told number c.in-Got-field-2.is c.field-3.ensures in
-    let to = told number c.in-Got-field.is c.field-2.ensures in
-    let from = told number c.in-Got.is c.field.ensures in
-    record { within = tt; same = rw (← from.same, ← to.same, ← bytes.same, ← (told when c.in_default-when.is c.when.ensures).same) }
+returns-in_err-when c = rw c.from_residual-in_err-when.ensures (record { within = tt; same = rw (← c.in_ok-from.ensures.same, ← c.in_ok-to.ensures.same, ← c.in_ok-bytes.ensures.same, ← c.in_err-when.ensures.same) })
 
 pub returns : goal.returns
 unfolding edge_at
-returns c =
-    let when_end = told when c.in-Got-when.is c.when.ensures in
-    let bytes = told number c.in-Got-field-2.is c.field-3.ensures in
-    let to = told number c.in-Got-field.is c.field-2.ensures in
-    let from = told number c.in-Got.is c.field.ensures in
-    record { within = when_end.within; same = rw (← from.same, ← to.same, ← bytes.same, ← when_end.same) }
+returns c = record { within = c.in_ok-when.ensures.within; same = rw (← c.in_ok-from.ensures.same, ← c.in_ok-to.ensures.same, ← c.in_ok-bytes.ensures.same, ← c.in_ok-when.ensures.same) }

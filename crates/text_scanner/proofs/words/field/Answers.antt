@@ -1,16 +1,14 @@
 -- `field` gives what the grammar reads: a word and then a number.
 use Rattle.text_grammar.specs.Parse.{field_at}
-use Rattle.text_scanner.specs.Place.{next}
-use Rattle.text_scanner.proofs.AnswerCases.{told}
 use Rattle.text_scanner.proofs.words.field.Goals as goal
 
-pub returns-in_default : goal.returns-in_default
+pub returns-in_err-i : goal.returns-in_err-i
 unfolding field_at
-returns-in_default c = record { within = tt; same = rw (← (told next c.in_default.is c.word.ensures).same) }
+returns-in_err-i c = rw c.from_residual.ensures (record { within = tt; same = rw (← c.in_err-i.ensures.same) })
 
 pub number_to-requires : goal.number_to-requires
-number_to-requires c = (told next c.in-Got.is c.word.ensures).within
+number_to-requires c = c.in_ok-i.ensures.within
 
 pub returns : goal.returns
 unfolding field_at
-returns c = rw (← (told next c.in-Got.is c.word.ensures).same) c.number_to.ensures
+returns c = rw (← c.in_ok-i.ensures.same) c.number_to.ensures

@@ -1,33 +1,25 @@
--- `word` gives what the grammar reads: the bytes before `i` are the word's, and the rest of the word against the rest
--- of the text gives the whole answer.
-use Prim.Native.Nat.{◌+◌}
-use mathlib.Core.Path.{◌≡◌, sym, ◌∙◌}
+-- `word` gives what the grammar reads: a word that stands in front of the text from `at` on, or nothing.
+use mathlib.Core.Path.{◌≡◌, refl, sym}
+use Prim.Native.Nat.{◌-◌, ℕ}
 use native.Mathlib.Omega.{arith}
-use lib.ListN.{length-drop}
-use Rattle.text_scanner.proofs.WordSteps.{word_short, word_next, word_off, word_all}
-use borrow.Author.Rules.{rules}
+use lib.ListN.{length, drop, take, length-drop}
+use lib.Seq.{take_all}
+use Rattle.std.proofs.lemmas.List.{drop-drop}
+use Rattle.text_scanner.proofs.WordSteps.{word_in_front, word_not_in_front}
 use Rattle.text_scanner.proofs.words.word.Goals as goal
 
-pub returns-then-text-at : goal.returns-then-text-at
-returns-then-text-at c = record { within = tt; same = sym (word_short _ _ (omega (arith, length-drop c.args.at c.args.text.now))) }
-
-pub loop-i-init : goal.loop-i-init
-loop-i-init c = let e : c.args.at + 0 ≡ c.args.at = omega arith in (search rules, rw e)
-
-pub returns-then-text-at-2 : goal.returns-then-text-at-2
-returns-then-text-at-2 c =
+pub returns-then-starts_with : goal.returns-then-starts_with
+returns-then-starts_with c =
     let a = c.args in
-    let l = c.loop-i in
-    record { within = tt; same = sym (l.invariant.1 ∙ word_off a.text.now a.w.now (a.at + l.i) l.i (omega arith) (omega arith) c.if-text-at-2.true) }
-
-pub loop-i-preserved : goal.loop-i-preserved
-loop-i-preserved c =
-    let a = c.args in
-    let l = c.loop-i in
-    let e : a.at + (l.i + 1) ≡ (a.at + l.i) + 1 = omega arith in
-    (omega arith, l.invariant.1 ∙ word_next a.text.now a.w.now (a.at + l.i) l.i (omega arith) (omega arith) c.if-text-at-2.false ∙ rw e)
+    let found = c.if-starts_with.ensures in
+    let whole : take (length a.text.now - a.at) (drop a.at a.text.now) ≡ drop a.at a.text.now = take_all _ _ (omega (arith, length-drop {A = ℕ})) in
+    record {
+      within = omega (arith, rw whole at (found.bound refl), length-drop {A = ℕ});
+      same = sym (rw drop-drop at (word_in_front a.w.now (drop a.at a.text.now) (sym (rw whole at found.value))));
+    }
 
 pub returns : goal.returns
 returns c =
-    let l = c.loop-i in
-    record { within = omega arith; same = sym (l.invariant.1 ∙ word_all _ _ l.i c.loop-i-test.false) }
+    let a = c.args in
+    let whole : take (length a.text.now - a.at) (drop a.at a.text.now) ≡ drop a.at a.text.now = take_all _ _ (omega (arith, length-drop {A = ℕ})) in
+    record { within = tt; same = sym (word_not_in_front a.w.now (drop a.at a.text.now) (sym (rw whole at c.if-starts_with.ensures.value))) }

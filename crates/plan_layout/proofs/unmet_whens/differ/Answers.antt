@@ -1,9 +1,0 @@
--- `plan_layout::differ` meets its contract.
-use borrow.Author.Tests.{eq-eqb, ne_eqb}
-use Rattle.plan_layout.proofs.unmet_whens.differ.Goals as goal
-
-pub returns-then-a-b : goal.returns-then-a-b
-returns-then-a-b c = rw (eq-eqb _ _ c.if-a-b.true)
-
-pub returns : goal.returns
-returns c = rw (ne_eqb _ _ c.if-a-b.false)
