@@ -1,20 +1,18 @@
 // A start table lent as bytes, checked for a plan text and answered as one number.
 ghost use Rattle.std.specs.Prelude.{◌≡◌};
-ghost use Rattle.refusals.specs.Numbers.{numbered};
 ghost use Rattle.c_check.specs.Checks.{Checks, checked_answer};
 
 use crate::table::check_bytes;
-use c_words::answered;
-use refusals::Refusal;
+use c_words::{numbered, refused};
 use text_reader::read_plan;
 
-// The number in which the checker's answer is given: 0 for an accepted table, or the refusal.
-pub fn checked(answer: Result<(), Refusal>) -> u64
-    ensures { result ≡ checked_answer (numbered answer) }
+// The number in which the checker's answer is given: 0 for an accepted table, or that of the refusal with this number.
+pub fn checked(answer: Result<(), u32>) -> u64
+    ensures { result ≡ checked_answer answer }
 {
     match answer {
         Ok(()) => 0,
-        Err(refusal) => answered(Err(refusal)),
+        Err(number) => refused(number),
     }
 }
 
@@ -24,7 +22,7 @@ pub fn check_text(text: &[u8], table: &[u8], delay: u64) -> u64
     ensures { Checks text.now table.now delay result }
 {
     match read_plan(text) {
-        Ok(p) => checked(check_bytes(p, table, delay)),
-        Err(refusal) => checked(Err(refusal)),
+        Ok(p) => checked(numbered(check_bytes(p, table, delay))),
+        Err(refusal) => refused(refusal.number()),
     }
 }

@@ -3,6 +3,7 @@ ghost use Rattle.c_check.specs.Checks.{Checks};
 ghost use Rattle.c_interface.specs.Listings.{ChecksListingText};
 
 use c_check::{check_text, checked};
+use c_words::numbered;
 use check_program::check_texts;
 
 // Checks a table given as bytes, with the delay stated for it: 0 if it is accepted, or the first refusal, 1 to 9 of the
@@ -20,5 +21,5 @@ pub extern "C" fn riscadru_check_table(text: &[u8], table: &[u8], delay: u64) ->
 pub extern "C" fn riscadru_check_listing(text: &[u8], listing: &[u8]) -> u64
     ensures { ChecksListingText text.now listing.now result }
 {
-    checked(check_texts(text, listing))
+    checked(numbered(check_texts(text, listing)))
 }

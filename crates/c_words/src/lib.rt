@@ -7,6 +7,6 @@ mod numbers;
 mod words;
 mod words_out;
 
-pub use numbers::answered;
+pub use numbers::{answered, numbered, refused};
 pub use words::{entry_of, entry_words, how_many, read_words, word_at};
 pub use words_out::{put_some, put_words};

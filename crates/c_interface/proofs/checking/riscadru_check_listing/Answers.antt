@@ -7,4 +7,4 @@ use Rattle.c_interface.proofs.checking.riscadru_check_listing.Goals as goal
 pub returns : goal.returns
 returns c =
     let k = c.check_texts.ensures in
-    record { refusal = k.refusal; of_texts = k.of_texts; number = c.checked.ensures ∙ ap checked_answer k.answer ∙ same_number k.refusal }
+    record { refusal = k.refusal; of_texts = k.of_texts; number = c.checked.ensures ∙ ap checked_answer (c.numbered.ensures ∙ k.answer) ∙ same_number k.refusal }
