@@ -7,8 +7,8 @@ pub mod Marking
 pub mod Going
 -- Laws of words: WordPlaces (entries and frames by their numbers, and frames in order).
 pub mod WordPlaces
--- Laws of refusal 22: GivenFrames (frames that fit are those that the entries give), SameCounts (counts compared one by
--- one), StatedAnswers (the answer by its tests).
+-- Laws of refusal 22: GivenFrames (frames that fit are those that the entries give), SameCounts (counts that are
+-- equal), StatedAnswers (the answer by its tests).
 pub mod GivenFrames
 pub mod SameCounts
 pub mod StatedAnswers

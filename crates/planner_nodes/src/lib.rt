@@ -30,8 +30,8 @@ pub const WAIT_AT: usize = NOTED_AT + NOTED;
 pub const WORDS: usize = WAIT_AT + EDGES;
 
 // What planning keeps of a combination by node. It is one array and no struct of arrays: fixed memory is lent as one
-// array with named offsets, and the contracts above speak of its fields by `nodes_of`. Each field has a reader and a
-// store, which name it in their contracts.
+// array with named offsets, and the contracts above speak of its fields by `nodes_of`. Each field has a store, and
+// most a reader, which name it in their contracts; clocks are also compared at their offset, and counts noted as a run.
 pub type Nodes = [u32; WORDS];
 
 // The clock at which the last process of node n ends, 0 if it has started none.

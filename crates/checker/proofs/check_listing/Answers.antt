@@ -1,15 +1,15 @@
 -- `checker::check_listing` meets its contract: a refusal of the plan, or else the answer to the listing.
-use mathlib.Core.Path.{sym, refl}
+use mathlib.Core.Path.{sym}
 use Rattle.std.proofs.lemmas.Result.{err_from_is_err_and}
-use Rattle.model.specs.ListingText.{by_plan}
-use Rattle.checker_table.specs.Verdict.{answer_of}
+use Rattle.plan.specs.Memory.{lines}
+use Rattle.checker.proofs.PlanRefused.{plan_refused}
 use Rattle.checker.proofs.check_listing.Goals as goal
 
 pub returns-in_err-refuse : goal.returns-in_err-refuse
-unfolding answer_of
 returns-in_err-refuse c =
+    let a = c.args in
     let p = err_from_is_err_and c.from_residual.result c.from_residual.ensures.1 in
-    rw (p.1, p.2) (record { refusal = _; of_listing = by_plan _ (sym c.in_err-refuse.ensures); answer = refl })
+    rw (p.1, p.2) (plan_refused (lines a.p) a.listing.now _ (sym c.in_err-refuse.ensures))
 
 pub check_listed-requires : goal.check_listed-requires
 check_listed-requires c = sym c.in_ok-refuse.ensures
