@@ -26,7 +26,8 @@ proofs; and must-fail edits.
 |---|---|---|---|---|---|
 """
 
-FUNCTION = re.compile(r'^(?:pub(?:\(crate\))? )?(?:extern "C" )?fn \w+', re.M)
+# a function, a method, or what a trait asks for
+FUNCTION = re.compile(r'^ *(?:pub(?:\(crate\))? )?(?:extern "C" )?fn \w+', re.M)
 # in this run, or by an earlier one on the same files
 PROVED = re.compile(r"^rt: (\w+) (?:proved$|is kept: )", re.M)
 REFUSED = re.compile(r"^rt: must-fail (\w+)/(\S+)\.edit: refused, as it must be", re.M)

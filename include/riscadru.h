@@ -13,8 +13,8 @@
  *
  * Nothing is allocated and nothing is kept between calls: a call works on its caller's stack. Measured on
  * x86-64, with S and with a largest plan, the least stack with which a process that made the call came through,
- * rounded up to 8 KiB: riscadru_plan_table 736 KiB, riscadru_plan_listing 488, riscadru_check_table 352,
- * riscadru_check_listing 336, riscadru_lookup 56, riscadru_copy_plan 56, the row functions 16. That is not proved.
+ * rounded up to 8 KiB: riscadru_plan_table 728 KiB, riscadru_plan_listing 472, riscadru_check_table 336,
+ * riscadru_check_listing 336, riscadru_lookup 48, riscadru_copy_plan 48, the row functions 16. That is not proved.
  */
 #ifndef RISCADRU_H
 #define RISCADRU_H
