@@ -22,7 +22,7 @@ pub fn numbered<T>(answer: Result<T, Refusal>) -> Result<T, u32>
     }
 }
 
-// A count or another number as it stands, or the number of a refusal.
+// A count or another number as it stands, or refusal n as 2^64 - 1 less n.
 pub fn answered(answer: Result<usize, Refusal>) -> u64
     ensures { result ≡ answer_number (numbered answer) }
 {
